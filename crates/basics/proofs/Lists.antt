@@ -1,0 +1,52 @@
+-- Laws of lists: the next element, and whether two lists are the same.
+use Prim.Native.Nat.{ℕ, suc, _+_, _≤_, _<_}
+use mathlib.Core.Path.{_≡_, refl, ap, ap₂, sym}
+use mathlib.Core.Bool.{Bool, true, false, _&&_, false≢true}
+use mathlib.Core.List.{List, [], _∷_}
+use native.Mathlib.Numerals.{add-one}
+use lib.Dec.{eqb}
+use lib.ListN.{length, drop, getD, drop-of-length-le}
+use lib.Seq.{drop-cons}
+use borrow.Author.Tests.{eq-eqb, ne-eqb, eqb-true}
+use Rattle.basics.specs.Same.{same}
+use Rattle.basics.proofs.Choice.{and-split, and-no}
+
+-- the code's p + 1
+pub drop-next : {A : Type 0} (s : List A) (p : ℕ) (d : A) → p < length s → drop p s ≡ getD s p d ∷ drop (p + 1) s
+drop-next s p d h = rw (add-one, drop-cons s p d)
+
+pub same-refl : (a : List ℕ) → same a a ≡ true
+unfolding same
+same-refl [] = refl
+same-refl (x ∷ a) = rw (eq-eqb x x refl, same-refl a)
+
+pub same-true : (a b : List ℕ) → same a b ≡ true → a ≡ b
+unfolding same
+same-true [] [] e = refl
+same-true [] (y ∷ b) e = absurd (false≢true e)
+same-true (x ∷ a) [] e = absurd (false≢true e)
+same-true (x ∷ a) (y ∷ b) e =
+    let q = and-split (eqb x y) (same a b) e in ap₂ (λ h t. h ∷ t) (eqb-true x y (q .0)) (same-true a b (q .1))
+
+-- lists of two lengths differ
+pub same-length : (a b : List ℕ) → (length a ≡ length b → ⊥) → same a b ≡ false
+unfolding same
+same-length [] [] h = absurd (h refl)
+same-length [] (y ∷ b) h = refl
+same-length (x ∷ a) [] h = refl
+same-length (x ∷ a) (y ∷ b) h = rw (same-length a b (λ e. h (ap suc e))) (and-no (eqb x y))
+
+-- what is left of two lists, from a place on
+module _ (a b : List ℕ) (i : ℕ) where
+  pub same-end : length a ≤ i → length b ≤ i → same (drop i a) (drop i b) ≡ true
+  unfolding same
+  same-end h g = rw (drop-of-length-le a h, drop-of-length-le b g)
+
+  module _ (h : i < length a) (g : i < length b) where
+    pub same-next : getD a i 0 ≡ getD b i 0 → same (drop i a) (drop i b) ≡ same (drop (i + 1) a) (drop (i + 1) b)
+    unfolding same
+    same-next e = rw (drop-next a i 0 h, drop-next b i 0 g, eq-eqb _ _ e)
+
+    pub same-differ : (getD a i 0 ≡ getD b i 0 → ⊥) → same (drop i a) (drop i b) ≡ false
+    unfolding same
+    same-differ e = rw (drop-next a i 0 h, drop-next b i 0 g, ne-eqb _ _ e)
