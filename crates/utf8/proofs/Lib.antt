@@ -1,0 +1,9 @@
+pub mod Bytes
+pub mod Rows
+pub mod First
+pub mod AsciiBlock
+pub mod Answer
+pub mod Append
+pub mod Encoding
+pub mod Written
+pub mod Vectors
