@@ -1,16 +1,16 @@
 -- The length that the tests of `sequence` find is that of the row of the RFC's table that the text begins with.
-use Prim.Native.Nat.{ℕ, zero, suc, _+_, _≤_, _<_, zero-le}
-use mathlib.Core.Path.{_≡_, refl, sym, ap, subst, _∙_}
-use mathlib.Core.Bool.{Bool, true, false, false≢true, _&&_, cond}
+use Prim.Native.Nat.{ℕ, zero, suc, _≤_, _<_, zero-le}
+use mathlib.Core.Path.{_≡_, refl, sym, _∙_}
+use mathlib.Core.Bool.{true, false, false≢true}
 use mathlib.Core.List.{List, [], _∷_}
-use mathlib.Core.Logic.{_⊎_, inl, inr, ⊎-elim, _≢_}
+use mathlib.Core.Logic.{_≢_}
 use native.Mathlib.Omega.{arith}
 use native.Mathlib.Nat.{not-suc-le-zero, le-of-suc-le-suc}
-use native.Mathlib.Decide.{decLt, decLe}
-use lib.Dec.{T, ltb, leb, eqb, lit≤, lit<}
+use native.Mathlib.Decide.{decLt}
+use lib.Dec.{lit≤, lit<}
 use lib.ListN.{length, getD}
-use borrow.Author.Tests.{eq-eqb, ne-eqb, le-leb, lt-leb}
-use Rattle.utf8.proofs.Bytes.{View, none, one, two, three, four, view, sequence-one, sequence-two, sequence-three, sequence-four, low-least, high-most}
+use borrow.Author.Tests.{ne-eqb}
+use Rattle.utf8.proofs.Bytes.{View, none, one, two, three, four, view, sequence-one, sequence-two, sequence-three, sequence-four}
 use Rattle.basics.specs.Between.{between}
 use Rattle.basics.proofs.Choice.{and-split, between-true, cond-ind, in-between}
 use Rattle.utf8.specs.Table.{Range, _to_, rows, fits, matched}
@@ -21,7 +21,7 @@ abbrev In : Range → ℕ → Type 0
 In r b = (r .least ≤ b) × (b ≤ r .most)
 
 none-of : Range
-none-of = _to_ 0 0
+none-of = (0 to 0)
 
 -- each byte of a text that begins with a row is within its bounds
 fits-at : (rs : List Range) (s : List ℕ) → fits rs s ≡ true → (i : ℕ) → i < length rs → In (getD rs i none-of) (getD s i 0)
@@ -86,7 +86,7 @@ unfolding high
 high-of-f4 a e = rw e
 
 abbrev tl : Range
-tl = _to_ 0x80 0xBF
+tl = (0x80 to 0xBF)
 
 module _ (s : List ℕ) where
   abbrev found : ℕ → Type 0
@@ -113,49 +113,49 @@ module _ (s : List ℕ) where
       sym (sequence-four (getD s 0 0) (getD s 1 0) (getD s 2 0) (getD s 3 0) (omega arith) (omega arith) (omega arith) (omega arith) (l .0) (l .1) (m .0) (m .1))
 
   none-left : {n : ℕ} → View (getD s 0 0) (getD s 1 0) (getD s 2 0) (getD s 3 0) n → 0 < length s
-      → fits (_to_ 0x00 0x7F ∷ []) s ≡ false
-      → fits (_to_ 0xC2 0xDF ∷ tl ∷ []) s ≡ false
-      → fits (_to_ 0xE0 0xE0 ∷ _to_ 0xA0 0xBF ∷ tl ∷ []) s ≡ false
-      → fits (_to_ 0xE1 0xEC ∷ _to_ 0x80 0xBF ∷ tl ∷ []) s ≡ false
-      → fits (_to_ 0xED 0xED ∷ _to_ 0x80 0x9F ∷ tl ∷ []) s ≡ false
-      → fits (_to_ 0xEE 0xEF ∷ _to_ 0x80 0xBF ∷ tl ∷ []) s ≡ false
-      → fits (_to_ 0xF0 0xF0 ∷ _to_ 0x90 0xBF ∷ tl ∷ tl ∷ []) s ≡ false
-      → fits (_to_ 0xF1 0xF3 ∷ _to_ 0x80 0xBF ∷ tl ∷ tl ∷ []) s ≡ false
-      → fits (_to_ 0xF4 0xF4 ∷ _to_ 0x80 0x8F ∷ tl ∷ tl ∷ []) s ≡ false
+      → fits (0x00 to 0x7F ∷ []) s ≡ false
+      → fits (0xC2 to 0xDF ∷ tl ∷ []) s ≡ false
+      → fits (0xE0 to 0xE0 ∷ 0xA0 to 0xBF ∷ tl ∷ []) s ≡ false
+      → fits (0xE1 to 0xEC ∷ 0x80 to 0xBF ∷ tl ∷ []) s ≡ false
+      → fits (0xED to 0xED ∷ 0x80 to 0x9F ∷ tl ∷ []) s ≡ false
+      → fits (0xEE to 0xEF ∷ 0x80 to 0xBF ∷ tl ∷ []) s ≡ false
+      → fits (0xF0 to 0xF0 ∷ 0x90 to 0xBF ∷ tl ∷ tl ∷ []) s ≡ false
+      → fits (0xF1 to 0xF3 ∷ 0x80 to 0xBF ∷ tl ∷ tl ∷ []) s ≡ false
+      → fits (0xF4 to 0xF4 ∷ 0x80 to 0x8F ∷ tl ∷ tl ∷ []) s ≡ false
       → 0 ≡ n
   none-left none z f1 f2 f3 f4 f5 f6 f7 f8 f9 = refl
-  none-left (one h) z f1 f2 f3 f4 f5 f6 f7 f8 f9 = absurd (false≢true (sym f1 ∙ fits-one (_to_ 0x00 0x7F) s z (zero-le, le-of-suc-le-suc h)))
-  none-left (two h k l m) z f1 f2 f3 f4 f5 f6 f7 f8 f9 = absurd (false≢true (sym f2 ∙ fits-two (_to_ 0xC2 0xDF) tl s (lit< tt) (h, k) (l, m)))
+  none-left (one h) z f1 f2 f3 f4 f5 f6 f7 f8 f9 = absurd (false≢true (sym f1 ∙ fits-one (0x00 to 0x7F) s z (zero-le, le-of-suc-le-suc h)))
+  none-left (two h k l m) z f1 f2 f3 f4 f5 f6 f7 f8 f9 = absurd (false≢true (sym f2 ∙ fits-two (0xC2 to 0xDF) tl s (lit< tt) (h, k) (l, m)))
   none-left (three h k l m n o) z f1 f2 f3 f4 f5 f6 f7 f8 f9 =
       elim (decLt (getD s 0 0) 0xE1) [
-        | yes x ↦ absurd (false≢true (sym f3 ∙ fits-three (_to_ 0xE0 0xE0) (_to_ 0xA0 0xBF) tl s (lit< tt) (omega arith, omega arith) (omega (arith, low-of-e0 (getD s 0 0) (omega arith)), omega (arith, high-usual (getD s 0 0) (omega arith) (omega arith))) (n, o)))
+        | yes x ↦ absurd (false≢true (sym f3 ∙ fits-three (0xE0 to 0xE0) (0xA0 to 0xBF) tl s (lit< tt) (omega arith, omega arith) (omega (arith, low-of-e0 (getD s 0 0) (omega arith)), omega (arith, high-usual (getD s 0 0) (omega arith) (omega arith))) (n, o)))
         | no x ↦ elim (decLt (getD s 0 0) 0xED) [
-          | yes y ↦ absurd (false≢true (sym f4 ∙ fits-three (_to_ 0xE1 0xEC) (_to_ 0x80 0xBF) tl s (lit< tt) (omega arith, omega arith) (omega (arith, low-usual (getD s 0 0) (omega arith) (omega arith)), omega (arith, high-usual (getD s 0 0) (omega arith) (omega arith))) (n, o)))
+          | yes y ↦ absurd (false≢true (sym f4 ∙ fits-three (0xE1 to 0xEC) (0x80 to 0xBF) tl s (lit< tt) (omega arith, omega arith) (omega (arith, low-usual (getD s 0 0) (omega arith) (omega arith)), omega (arith, high-usual (getD s 0 0) (omega arith) (omega arith))) (n, o)))
           | no y ↦ elim (decLt (getD s 0 0) 0xEE) [
-            | yes w ↦ absurd (false≢true (sym f5 ∙ fits-three (_to_ 0xED 0xED) (_to_ 0x80 0x9F) tl s (lit< tt) (omega arith, omega arith) (omega (arith, low-usual (getD s 0 0) (omega arith) (omega arith)), omega (arith, high-of-ed (getD s 0 0) (omega arith))) (n, o)))
-            | no w ↦ absurd (false≢true (sym f6 ∙ fits-three (_to_ 0xEE 0xEF) (_to_ 0x80 0xBF) tl s (lit< tt) (omega arith, omega arith) (omega (arith, low-usual (getD s 0 0) (omega arith) (omega arith)), omega (arith, high-usual (getD s 0 0) (omega arith) (omega arith))) (n, o)))
+            | yes w ↦ absurd (false≢true (sym f5 ∙ fits-three (0xED to 0xED) (0x80 to 0x9F) tl s (lit< tt) (omega arith, omega arith) (omega (arith, low-usual (getD s 0 0) (omega arith) (omega arith)), omega (arith, high-of-ed (getD s 0 0) (omega arith))) (n, o)))
+            | no w ↦ absurd (false≢true (sym f6 ∙ fits-three (0xEE to 0xEF) (0x80 to 0xBF) tl s (lit< tt) (omega arith, omega arith) (omega (arith, low-usual (getD s 0 0) (omega arith) (omega arith)), omega (arith, high-usual (getD s 0 0) (omega arith) (omega arith))) (n, o)))
           ]
         ]
       ]
   none-left (four h k l m n o p q) z f1 f2 f3 f4 f5 f6 f7 f8 f9 =
       elim (decLt (getD s 0 0) 0xF1) [
-        | yes x ↦ absurd (false≢true (sym f7 ∙ fits-four (_to_ 0xF0 0xF0) (_to_ 0x90 0xBF) tl tl s (lit< tt) (omega arith, omega arith) (omega (arith, low-of-f0 (getD s 0 0) (omega arith)), omega (arith, high-usual (getD s 0 0) (omega arith) (omega arith))) (n, o) (p, q)))
+        | yes x ↦ absurd (false≢true (sym f7 ∙ fits-four (0xF0 to 0xF0) (0x90 to 0xBF) tl tl s (lit< tt) (omega arith, omega arith) (omega (arith, low-of-f0 (getD s 0 0) (omega arith)), omega (arith, high-usual (getD s 0 0) (omega arith) (omega arith))) (n, o) (p, q)))
         | no x ↦ elim (decLt (getD s 0 0) 0xF4) [
-          | yes y ↦ absurd (false≢true (sym f8 ∙ fits-four (_to_ 0xF1 0xF3) (_to_ 0x80 0xBF) tl tl s (lit< tt) (omega arith, omega arith) (omega (arith, low-usual (getD s 0 0) (omega arith) (omega arith)), omega (arith, high-usual (getD s 0 0) (omega arith) (omega arith))) (n, o) (p, q)))
-          | no y ↦ absurd (false≢true (sym f9 ∙ fits-four (_to_ 0xF4 0xF4) (_to_ 0x80 0x8F) tl tl s (lit< tt) (omega arith, omega arith) (omega (arith, low-usual (getD s 0 0) (omega arith) (omega arith)), omega (arith, high-of-f4 (getD s 0 0) (omega arith))) (n, o) (p, q)))
+          | yes y ↦ absurd (false≢true (sym f8 ∙ fits-four (0xF1 to 0xF3) (0x80 to 0xBF) tl tl s (lit< tt) (omega arith, omega arith) (omega (arith, low-usual (getD s 0 0) (omega arith) (omega arith)), omega (arith, high-usual (getD s 0 0) (omega arith) (omega arith))) (n, o) (p, q)))
+          | no y ↦ absurd (false≢true (sym f9 ∙ fits-four (0xF4 to 0xF4) (0x80 to 0x8F) tl tl s (lit< tt) (omega arith, omega arith) (omega (arith, low-usual (getD s 0 0) (omega arith) (omega arith)), omega (arith, high-of-f4 (getD s 0 0) (omega arith))) (n, o) (p, q)))
         ]
       ]
 
   -- the row that a text begins with is the one that the tests find
   pub table-says : 0 < length s → matched rows s ≡ sequence (getD s 0 0) (getD s 1 0) (getD s 2 0) (getD s 3 0)
   table-says z =
-      cond-ind found (fits (_to_ 0x00 0x7F ∷ []) s) _ _ (λ e. let h = fits-at (_to_ 0x00 0x7F ∷ []) s e 0 (lit< tt) in sym (sequence-one (getD s 0 0) (getD s 1 0) (getD s 2 0) (getD s 3 0) (omega arith)))
-      (λ f1. cond-ind found (fits (_to_ 0xC2 0xDF ∷ tl ∷ []) s) _ _ (λ e. let h = fits-at (_to_ 0xC2 0xDF ∷ tl ∷ []) s e 0 (lit< tt) in let k = fits-at (_to_ 0xC2 0xDF ∷ tl ∷ []) s e 1 (lit< tt) in sym (sequence-two (getD s 0 0) (getD s 1 0) (getD s 2 0) (getD s 3 0) (h .0) (h .1) (k .0) (k .1)))
-      (λ f2. cond-ind found (fits (_to_ 0xE0 0xE0 ∷ _to_ 0xA0 0xBF ∷ tl ∷ []) s) _ _ (λ e. three-found (_to_ 0xE0 0xE0) (_to_ 0xA0 0xBF) (lit≤ tt) (lit≤ tt) (λ h. (omega (arith, low-of-e0 (getD s 0 0) (omega arith)), omega (arith, high-usual (getD s 0 0) (omega arith) (omega arith)))) e)
-      (λ f3. cond-ind found (fits (_to_ 0xE1 0xEC ∷ _to_ 0x80 0xBF ∷ tl ∷ []) s) _ _ (λ e. three-found (_to_ 0xE1 0xEC) (_to_ 0x80 0xBF) (lit≤ tt) (lit≤ tt) (λ h. (omega (arith, low-usual (getD s 0 0) (omega arith) (omega arith)), omega (arith, high-usual (getD s 0 0) (omega arith) (omega arith)))) e)
-      (λ f4. cond-ind found (fits (_to_ 0xED 0xED ∷ _to_ 0x80 0x9F ∷ tl ∷ []) s) _ _ (λ e. three-found (_to_ 0xED 0xED) (_to_ 0x80 0x9F) (lit≤ tt) (lit≤ tt) (λ h. (omega (arith, low-usual (getD s 0 0) (omega arith) (omega arith)), omega (arith, high-of-ed (getD s 0 0) (omega arith)))) e)
-      (λ f5. cond-ind found (fits (_to_ 0xEE 0xEF ∷ _to_ 0x80 0xBF ∷ tl ∷ []) s) _ _ (λ e. three-found (_to_ 0xEE 0xEF) (_to_ 0x80 0xBF) (lit≤ tt) (lit≤ tt) (λ h. (omega (arith, low-usual (getD s 0 0) (omega arith) (omega arith)), omega (arith, high-usual (getD s 0 0) (omega arith) (omega arith)))) e)
-      (λ f6. cond-ind found (fits (_to_ 0xF0 0xF0 ∷ _to_ 0x90 0xBF ∷ tl ∷ tl ∷ []) s) _ _ (λ e. four-found (_to_ 0xF0 0xF0) (_to_ 0x90 0xBF) (lit≤ tt) (lit≤ tt) (λ h. (omega (arith, low-of-f0 (getD s 0 0) (omega arith)), omega (arith, high-usual (getD s 0 0) (omega arith) (omega arith)))) e)
-      (λ f7. cond-ind found (fits (_to_ 0xF1 0xF3 ∷ _to_ 0x80 0xBF ∷ tl ∷ tl ∷ []) s) _ _ (λ e. four-found (_to_ 0xF1 0xF3) (_to_ 0x80 0xBF) (lit≤ tt) (lit≤ tt) (λ h. (omega (arith, low-usual (getD s 0 0) (omega arith) (omega arith)), omega (arith, high-usual (getD s 0 0) (omega arith) (omega arith)))) e)
-      (λ f8. cond-ind found (fits (_to_ 0xF4 0xF4 ∷ _to_ 0x80 0x8F ∷ tl ∷ tl ∷ []) s) _ _ (λ e. four-found (_to_ 0xF4 0xF4) (_to_ 0x80 0x8F) (lit≤ tt) (lit≤ tt) (λ h. (omega (arith, low-usual (getD s 0 0) (omega arith) (omega arith)), omega (arith, high-of-f4 (getD s 0 0) (omega arith)))) e)
+      cond-ind found (fits (0x00 to 0x7F ∷ []) s) _ _ (λ e. let h = fits-at (0x00 to 0x7F ∷ []) s e 0 (lit< tt) in sym (sequence-one (getD s 0 0) (getD s 1 0) (getD s 2 0) (getD s 3 0) (omega arith)))
+      (λ f1. cond-ind found (fits (0xC2 to 0xDF ∷ tl ∷ []) s) _ _ (λ e. let h = fits-at (0xC2 to 0xDF ∷ tl ∷ []) s e 0 (lit< tt) in let k = fits-at (0xC2 to 0xDF ∷ tl ∷ []) s e 1 (lit< tt) in sym (sequence-two (getD s 0 0) (getD s 1 0) (getD s 2 0) (getD s 3 0) (h .0) (h .1) (k .0) (k .1)))
+      (λ f2. cond-ind found (fits (0xE0 to 0xE0 ∷ 0xA0 to 0xBF ∷ tl ∷ []) s) _ _ (λ e. three-found (0xE0 to 0xE0) (0xA0 to 0xBF) (lit≤ tt) (lit≤ tt) (λ h. (omega (arith, low-of-e0 (getD s 0 0) (omega arith)), omega (arith, high-usual (getD s 0 0) (omega arith) (omega arith)))) e)
+      (λ f3. cond-ind found (fits (0xE1 to 0xEC ∷ 0x80 to 0xBF ∷ tl ∷ []) s) _ _ (λ e. three-found (0xE1 to 0xEC) (0x80 to 0xBF) (lit≤ tt) (lit≤ tt) (λ h. (omega (arith, low-usual (getD s 0 0) (omega arith) (omega arith)), omega (arith, high-usual (getD s 0 0) (omega arith) (omega arith)))) e)
+      (λ f4. cond-ind found (fits (0xED to 0xED ∷ 0x80 to 0x9F ∷ tl ∷ []) s) _ _ (λ e. three-found (0xED to 0xED) (0x80 to 0x9F) (lit≤ tt) (lit≤ tt) (λ h. (omega (arith, low-usual (getD s 0 0) (omega arith) (omega arith)), omega (arith, high-of-ed (getD s 0 0) (omega arith)))) e)
+      (λ f5. cond-ind found (fits (0xEE to 0xEF ∷ 0x80 to 0xBF ∷ tl ∷ []) s) _ _ (λ e. three-found (0xEE to 0xEF) (0x80 to 0xBF) (lit≤ tt) (lit≤ tt) (λ h. (omega (arith, low-usual (getD s 0 0) (omega arith) (omega arith)), omega (arith, high-usual (getD s 0 0) (omega arith) (omega arith)))) e)
+      (λ f6. cond-ind found (fits (0xF0 to 0xF0 ∷ 0x90 to 0xBF ∷ tl ∷ tl ∷ []) s) _ _ (λ e. four-found (0xF0 to 0xF0) (0x90 to 0xBF) (lit≤ tt) (lit≤ tt) (λ h. (omega (arith, low-of-f0 (getD s 0 0) (omega arith)), omega (arith, high-usual (getD s 0 0) (omega arith) (omega arith)))) e)
+      (λ f7. cond-ind found (fits (0xF1 to 0xF3 ∷ 0x80 to 0xBF ∷ tl ∷ tl ∷ []) s) _ _ (λ e. four-found (0xF1 to 0xF3) (0x80 to 0xBF) (lit≤ tt) (lit≤ tt) (λ h. (omega (arith, low-usual (getD s 0 0) (omega arith) (omega arith)), omega (arith, high-usual (getD s 0 0) (omega arith) (omega arith)))) e)
+      (λ f8. cond-ind found (fits (0xF4 to 0xF4 ∷ 0x80 to 0x8F ∷ tl ∷ tl ∷ []) s) _ _ (λ e. four-found (0xF4 to 0xF4) (0x80 to 0x8F) (lit≤ tt) (lit≤ tt) (λ h. (omega (arith, low-usual (getD s 0 0) (omega arith) (omega arith)), omega (arith, high-of-f4 (getD s 0 0) (omega arith)))) e)
       (λ f9. none-left (view (getD s 0 0) (getD s 1 0) (getD s 2 0) (getD s 3 0)) z f1 f2 f3 f4 f5 f6 f7 f8 f9)))))))))

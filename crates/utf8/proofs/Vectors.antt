@@ -1,11 +1,8 @@
 -- Worked examples, by computation.
-use Prim.Native.Nat.{ℕ}
 use mathlib.Core.Path.{_≡_, refl}
-use mathlib.Core.List.{List, [], _∷_}
-use Rattle.utf8.specs.declared.Char.{Char}
-use Rattle.utf8.specs.declared.Checked.{Checked}
+use mathlib.Core.List.{[], _∷_}
 use Rattle.utf8.specs.declared.Checked.the-variants.{Valid, Bad}
-use Rattle.utf8.specs.Chars.{charsFrom, chars, firstChar, checked, encode}
+use Rattle.utf8.specs.Chars.{charsFrom, chars, firstChar, checked}
 
 -- A, not identical to, Alpha, full stop (RFC 3629, section 7)
 rfc-1 : chars (0x41 ∷ 0xE2 ∷ 0x89 ∷ 0xA2 ∷ 0xCE ∷ 0x91 ∷ 0x2E ∷ [])

@@ -1,6 +1,6 @@
 -- Laws of what a code is written in, by its range: how many bytes, and the byte at a place.
 use Prim.Native.Nat.{ℕ, zero, suc, _+_, _-_, _/_, _%_, _≤_, _<_}
-use mathlib.Core.Path.{_≡_, refl, sym, ap, subst, _∙_}
+use mathlib.Core.Path.{_≡_, refl, _∙_}
 use mathlib.Core.Bool.{cond}
 use mathlib.Core.List.{List, [], _∷_}
 use mathlib.Core.Logic.{_⊎_, inl, inr, ⊎-elim}
@@ -12,7 +12,7 @@ use borrow.Author.Tests.{lt-ltb, le-ltb}
 use Rattle.basics.proofs.Choice.{cond-ind, below-it, above-it}
 use Rattle.utf8.specs.Chars.{octets, encode}
 use Rattle.utf8.specs.Bytes.{digit, lead}
-use Rattle.utf8.proofs.Encoding.{Scalar, encode-scalar, octets-two, octets-three, octets-four}
+use Rattle.utf8.proofs.Encoding.{encode-scalar, octets-two, octets-three, octets-four}
 
 pub encode-one : (n : ℕ) → n < 0x80 → encode n ≡ n ∷ []
 unfolding octets

@@ -1,5 +1,5 @@
 -- `utf8::char_at` meets its contract: past the end, at an ASCII byte, and by the first four bytes.
-use mathlib.Core.Path.{_≡_, sym, _∙_}
+use mathlib.Core.Path.{sym, _∙_}
 use native.Mathlib.Omega.{arith}
 use borrow.Author.Tests.{le-ltb}
 use Rattle.utf8.proofs.First.{charAt-ascii, charAt-bytes}

@@ -1,5 +1,5 @@
 -- `utf8::check` meets its contract. The loop's invariant: what is left of the text gives the answer, with the count and the place so far.
-use Prim.Native.Nat.{ℕ, _+_, _-_, _≤_, _<_}
+use Prim.Native.Nat.{_+_, _-_, _≤_}
 use mathlib.Core.Path.{_≡_, sym, _∙_}
 use mathlib.Core.Bool.{true}
 use native.Mathlib.Omega.{arith}

@@ -1,5 +1,5 @@
 -- `utf8::ascii::is_block` meets its contract. The loop's invariant: the bytes so far are ASCII just where the greatest of them is.
-use Prim.Native.Nat.{ℕ, _+_, _-_, _≤_}
+use Prim.Native.Nat.{_+_, _-_, _≤_}
 use mathlib.Core.Path.{_≡_, refl, sym, ap, _∙_}
 use mathlib.Core.Logic.{⊎-elim}
 use native.Mathlib.Omega.{arith}

@@ -1,6 +1,5 @@
 use mathlib.Core.Path.{_≡_}
 use borrow.Author.Tests.{ne-eqb}
-use borrow.Author.Needs.{needs}
 use Rattle.utf8.proofs.sequence.decode.Statement.{statement}
 use Rattle.utf8.proofs.sequence.decode.Tie as tie
 use Rattle.utf8.specs.Bytes.{sequence, decoded}

@@ -1,4 +1,3 @@
-use borrow.Author.Needs.{needs}
 use Rattle.utf8.proofs.sequence.second_of.Statement.{statement}
 use Rattle.utf8.proofs.sequence.second_of.Tie as tie
 

@@ -1,10 +1,7 @@
 -- `utf8::sequence_len` meets its contract: what it makes of the count of leading ones is the table's, at each of the 256 bytes.
-use Prim.Native.Nat.{ℕ, _-_}
-use mathlib.Core.Path.{_≡_, sym, _∙_}
 use borrow.Author.Needs.{needs}
 use borrow.Author.Tests.{eq-eqb, ne-eqb, lt-ltb, le-ltb}
-use lib.Count.{leadingZeros}
-use Rattle.utf8.proofs.Bytes.{byOnes, announced-by-ones}
+use Rattle.utf8.proofs.Bytes.{announced-by-ones}
 use Rattle.utf8.proofs.sequence.sequence_len.Statement.{statement}
 use Rattle.utf8.proofs.sequence.sequence_len.Tie as tie
 

@@ -1,10 +1,9 @@
 -- `utf8::sequence_of` meets its contract: the announced length says which row of the table is left, and each call answers one of its tests.
-use mathlib.Core.Path.{_≡_, refl, sym, _∙_}
+use mathlib.Core.Path.{refl, sym, _∙_}
 use native.Mathlib.Omega.{arith}
 use Rattle.utf8.proofs.Bytes.{picks, lead, sequence-one, sequence-at-zero, sequence-at-two, sequence-at-three, sequence-at-four}
 use Rattle.utf8.proofs.sequence.sequence_of.Statement.{statement}
 use Rattle.utf8.proofs.sequence.sequence_of.Tie as tie
-use Rattle.utf8.specs.Bytes.{announced}
 
 sequence-len-requires : tie.Need-sequence-len-requires
 sequence-len-requires c κs = tt
