@@ -1,5 +1,5 @@
 -- Laws of the character at a place: its bytes, its width, ASCII, and one step of the character list.
-use Prim.Native.Nat.{ℕ, zero, suc, pred, _+_, _≤_, _<_}
+use Prim.Native.Nat.{ℕ, zero, suc, pred, _+_, _*_, _%_, _≤_, _<_}
 use mathlib.Core.Path.{_≡_, refl, sym, ap, _∙_}
 use mathlib.Core.List.{List, [], _∷_}
 use native.Mathlib.Omega.{arith}
@@ -11,7 +11,7 @@ use borrow.Author.Tests.{lt-ltb}
 use Rattle.utf8.specs.declared.Char.{Char}
 use Rattle.utf8.specs.Chars.{charOf, firstChar, charAt, charsFrom, chars}
 use Rattle.utf8.specs.Bytes.{decoded}
-use Rattle.utf8.proofs.Bytes.{View, none, one, two, three, four, view, sequence-one}
+use Rattle.utf8.proofs.Bytes.{View, none, one, two, three, four, view, sequence-one, low-least, high-most, low-e0, low-f0}
 use Rattle.utf8.proofs.Rows.{table-says}
 
 -- ---- the first character by the first four bytes
@@ -133,6 +133,34 @@ charAt-ascii s p h l = charAt-in s p h ∙ ascii-there s p h l
 
 pub chars-ascii : (s : List ℕ) (p : ℕ) → p < length s → getD s p 0 < 0x80 → chars (drop p s) ≡ ascii (getD s p 0) ∷ chars (drop (p + 1) s)
 chars-ascii s p h l = rw (ascii-there s p h l) at (chars-at s p h)
+
+-- ---- and any other byte is part of a character above 127
+sum-high : (x y z w : ℕ) → 1 ≤ x + y → 0x80 ≤ x * 262144 + y * 4096 + z * 64 + w
+sum-high x y z w h = omega arith
+
+code-high : {a b c d n : ℕ} → View a b c d n → 0x80 ≤ a → 0x80 ≤ charOf n a b c d .code
+code-high none h = lit≤ tt
+code-high (one l) h = absurd (omega arith)
+code-high {a} {b} (two l m n o) h = omega arith
+code-high {a} {b} {c} (three l m n o p q) h =
+    let u = low-e0 a l in
+    let v = low-least a in
+    let w = high-most a in
+    omega arith
+code-high {a} {b} {c} {d} (four l m n o p q r s) h =
+    let u = low-f0 a l in
+    let v = low-least a in
+    let w = high-most a in
+    sum-high (a % 8) (b % 64) (c % 64) (d % 64) (omega arith)
+
+pub first-high : (s : List ℕ) → 0 < length s → 0x80 ≤ getD s 0 0 → 0x80 ≤ firstChar s .code
+unfolding decoded
+first-high s z h = rw (first-is s z) (code-high (view (getD s 0 0) (getD s 1 0) (getD s 2 0) (getD s 3 0)) h)
+
+pub there-high : (s : List ℕ) (p : ℕ) → p < length s → 0x80 ≤ getD s p 0 → 0x80 ≤ firstChar (drop p s) .code
+there-high s p h l =
+    let b : getD (drop p s) 0 0 ≡ getD s p 0 = simp (getD-drop, add-zero) in
+    first-high (drop p s) (omega (arith, length-drop p s)) (rw b l)
 
 -- ---- no more characters than bytes
 chars-le-from : (k : ℕ) (s : List ℕ) → length (charsFrom k s) ≤ length s
