@@ -3,7 +3,7 @@ ghost use mathlib.Core.Path.{_≡_};
 ghost use Rattle.utf8.specs.Bytes.{asciiBlock};
 
 // Are there 32 bytes at a place, all of them below 128? Their greatest byte tells: a loop that is made of few wide steps.
-pub fn is_block(s: &[u8], at: usize) -> bool
+pub(crate) fn is_block(s: &[u8], at: usize) -> bool
     ensures { λ r. ⌜ r ≡ asciiBlock (now (s .entry)) at ⌝ }
 {
     if s.len() < 32 {

@@ -28,7 +28,7 @@ fn within(lo: u8, b: u8, hi: u8) -> bool
 }
 
 // The byte at a place, 0 past the end.
-pub fn byte(s: &[u8], at: usize) -> u8
+pub(crate) fn byte(s: &[u8], at: usize) -> u8
     ensures { λ r. ⌜ r ≡ getD (now (s .entry)) at 0 ⌝ }
 {
     if at < s.len() { s[at] } else { 0 }
@@ -115,7 +115,7 @@ fn code_of(n: usize, a: u8, b: u8, c: u8, d: u8) -> u32
 }
 
 // The character that four bytes begin with.
-pub fn decode(a: u8, b: u8, c: u8, d: u8) -> Char
+pub(crate) fn decode(a: u8, b: u8, c: u8, d: u8) -> Char
     ensures { λ r. ⌜ r ≡ decoded a b c d ⌝ }
 {
     let n = sequence_of(a, b, c, d);
