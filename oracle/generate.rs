@@ -5,7 +5,7 @@
 // exhaustive  every short text over small alphabets; below the whole number, COUNT of them drawn in order
 // edges       every fragment alone, after a set mark, before a line feed and before the end; drawn likewise
 // grown       COUNT random rows of fragments, at most 200 bytes each
-// long        COUNT random rows of some hundred fragments
+// long        COUNT random rows of some hundred fragments, their quotes and comments closed
 // damaged     COUNT grown texts with bytes deleted, doubled, swapped, replaced or cut
 // limits      the texts around each limit, COUNT of them at most
 use std::io::{self, BufWriter, Write};
@@ -85,6 +85,11 @@ const ODD: &[&str] = &[
     "~", "#", "$", "?", "@", "\\", "\0", "\u{7f}", "\u{b}", "\u{feff}", "..", "....", ".....", ".", "\u{80}", "é", "xé",
     "éx", "Ⅷ", "x٣", "٣", "日本", "\u{2028}", "\u{a0}", "\u{fffd}", "\u{1f600}", "\u{10ffff}", "x\u{301}", "&^^", "<<-", "<-=",
     "+++", "---", "====", ":==", "&&&", "|||=", "!==", ">>>=", "/=/", "*/", "%%=",
+];
+
+const SOUND: &[&str] = &[
+    "'a'", "'\\n'", "'本'", "'\\''", "\"\"", "\"a\\tb\"", "\"é\"", "\"\\u65e5\"", "`a\nb`", "`a\r\nb`", "// c\n", "// a\r\n",
+    "/* c */", "/* c\n*/", "/* é */",
 ];
 
 const BLANKS: &[&str] = &["", " ", " ", " ", "\n", "\n", "\t", "\r", "\r\n", "  \n\n", ";", "\n\r\n\t "];
@@ -186,10 +191,15 @@ fn fragment(rng: &mut Rng) -> Text {
     }
 }
 
-fn grow(rng: &mut Rng, fragments: usize, most: usize) -> Text {
+fn sound_fragment(rng: &mut Rng) -> Text {
+    let list = rng.pick(&[KEYWORDS, OPERATORS, WORDS, NUMBERS, SOUND]);
+    rng.pick(list).into()
+}
+
+fn grow(rng: &mut Rng, make: fn(&mut Rng) -> Text, fragments: usize, most: usize) -> Text {
     let mut text = Text::new();
     for _ in 0..fragments {
-        let mut next = fragment(rng);
+        let mut next = make(rng);
         next.extend(rng.pick(BLANKS).bytes());
         if text.len() + next.len() > most {
             break;
@@ -201,12 +211,12 @@ fn grow(rng: &mut Rng, fragments: usize, most: usize) -> Text {
 
 fn grown(rng: &mut Rng) -> Text {
     let fragments = 1 + rng.below(12);
-    grow(rng, fragments, 200)
+    grow(rng, fragment, fragments, 200)
 }
 
 fn long(rng: &mut Rng) -> Text {
     let fragments = 100 + rng.below(900);
-    grow(rng, fragments, 65536)
+    grow(rng, sound_fragment, fragments, 65536)
 }
 
 fn damage(rng: &mut Rng, text: &mut Text) {
