@@ -369,12 +369,15 @@ impl<W: Write> Frames<W> {
     }
 }
 
+fn usage() -> ! {
+    eprintln!("usage: generate MODE COUNT SEED; a mode is exhaustive, edges, grown, long, damaged or limits");
+    std::process::exit(1)
+}
+
 fn main() {
     let words: Vec<String> = std::env::args().skip(1).collect();
     let numbers: Vec<usize> = words.iter().skip(1).flat_map(|w| w.parse()).collect();
-    let ([mode, _, _], [count, seed]) = (&words[..], &numbers[..]) else {
-        panic!("generate MODE COUNT SEED");
-    };
+    let ([mode, _, _], [count, seed]) = (&words[..], &numbers[..]) else { usage() };
     let mut frames = Frames { rng: Rng(*seed as u64), output: BufWriter::new(io::stdout().lock()) };
     match mode.as_str() {
         "exhaustive" => frames.put_drawn(*count, exhaustive),
@@ -383,6 +386,6 @@ fn main() {
         "grown" => frames.put_made(*count, grown),
         "long" => frames.put_made(*count, long),
         "damaged" => frames.put_made(*count, damaged),
-        _ => panic!("no such mode: {mode}"),
+        _ => usage(),
     }
 }
