@@ -1,0 +1,10 @@
+// Lane 3: two pooled samples and a control.
+package recipe
+
+const capacity = 1 << 20
+
+var quota = map[string]int{
+	"sample-017": capacity / 4, /* half depth */
+	"sample-018": 0x40000,
+	"control":    1_000,
+}
