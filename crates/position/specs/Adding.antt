@@ -9,7 +9,7 @@ use Rattle.position.specs.declared.File.{File}
 use Rattle.position.specs.Place.{fitting}
 
 -- what a call leaves in the table, and its outcome: the count of lines
-pub record Added : Type 0 where
+pub record After : Type 0 where
   pub table : List ℕ
   pub outcome : Outcome ℕ
 
@@ -17,7 +17,7 @@ pub record Added : Type 0 where
 unfoldable pub starting : File → List ℕ → ℕ → Bool
 starting f table o = ltb (getD table (f .lines - 1) 0) o && ltb o (f .size)
 
-unfoldable pub addLine : File → List ℕ → ℕ → Added
+unfoldable pub addLine : File → List ℕ → ℕ → After
 addLine f table o =
     cond (fitting f table)
     (cond (starting f table o)
