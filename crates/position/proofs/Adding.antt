@@ -7,13 +7,13 @@ use mathlib.Core.Logic.{⊎-elim}
 use native.Mathlib.Numerals.{add-one}
 use native.Mathlib.Omega.{arith}
 use lib.Dec.{eqb}
-use lib.ListN.{length, getD, set, take, length-set}
+use lib.ListN.{length, set, take, length-set}
 use lib.Seq.{take-suc-set, take-set-le, getD-set-other}
 use borrow.Author.Tests.{lt-ltb, le-ltb, eq-eqb, ne-eqb, ltb-true, eqb-true, eqb-false}
 use Rattle.basics.proofs.Choice.{either, and-no, and-split}
 use Rattle.refusal.specs.Outcome.{Outcome, refused, gave}
 use Rattle.position.specs.declared.File.{File}
-use Rattle.position.specs.Lines.{StrictlyRising}
+use Rattle.position.specs.Lines.{lineStart, StrictlyRising}
 use Rattle.position.specs.Place.{fitting, starts}
 use Rattle.position.specs.Adding.{After, starting, addLine}
 use Rattle.position.proofs.Lines.{rising-snoc}
@@ -21,7 +21,7 @@ use Rattle.position.proofs.Place.{Fit, fit, last-start}
 
 -- whether an offset is a start to be recorded
 module _ (f : File) (table : List ℕ) (o : ℕ) where
-  pub starting-low : o ≤ getD table (f .lines - 1) 0 → starting f table o ≡ false
+  pub starting-low : o ≤ lineStart table (f .lines) → starting f table o ≡ false
   unfolding starting
   starting-low h = rw (le-ltb _ _ h)
 
@@ -29,11 +29,11 @@ module _ (f : File) (table : List ℕ) (o : ℕ) where
   unfolding starting
   starting-past h = rw (le-ltb _ _ h, and-no)
 
-  pub starting-here : getD table (f .lines - 1) 0 < o → o < f .size → starting f table o ≡ true
+  pub starting-here : lineStart table (f .lines) < o → o < f .size → starting f table o ≡ true
   unfolding starting
   starting-here h g = rw (lt-ltb _ _ h, lt-ltb _ _ g)
 
-  pub starting-above : starting f table o ≡ true → getD table (f .lines - 1) 0 < o
+  pub starting-above : starting f table o ≡ true → lineStart table (f .lines) < o
   unfolding starting
   starting-above e = ltb-true _ _ (and-split _ _ e .0)
 

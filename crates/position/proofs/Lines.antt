@@ -12,7 +12,7 @@ use lib.Seq.{getD-append-add, getD-append-seam}
 use borrow.Author.Tests.{lt-ltb, le-ltb, ltb-true, ltb-false}
 use Rattle.basics.proofs.Choice.{cond-ind, either}
 use Rattle.basics.proofs.Lists.{drop-next}
-use Rattle.position.specs.Lines.{lineOf, startOf, columnOf, StrictlyRising}
+use Rattle.position.specs.Lines.{lineOf, lineStart, startOf, columnOf, StrictlyRising}
 use Rattle.position.proofs.Tests.{same-lt}
 
 -- one start more, from the place p on
@@ -59,6 +59,12 @@ pub start-below : (s : List ℕ) (o : ℕ) → FromZero s → startOf s o ≤ o
 unfolding startOf
 start-below s o z = before-line s o (lineOf s o - 1) (omega (arith, line-one s o z))
 
+pub from-zero-append : (s t : List ℕ) → FromZero s → FromZero (s ++ t)
+from-zero-append s t z = record {
+  some = rw length-append (omega (arith, z .some));
+  first = List·getD-append s t 0 0 (z .some) ∙ z .first;
+}
+
 -- ---- a list in two parts
 
 -- every start is at most m
@@ -69,6 +75,10 @@ AtMost m (x ∷ xs) = (x ≤ m) × AtMost m xs
 pub at-most-up : {m n : ℕ} (s : List ℕ) → m ≤ n → AtMost m s → AtMost n s
 at-most-up [] e h = tt
 at-most-up (x ∷ s) e h = (omega arith, at-most-up s e (h .1))
+
+pub at-most-append : (m : ℕ) (s t : List ℕ) → AtMost m s → AtMost m t → AtMost m (s ++ t)
+at-most-append m [] t h g = g
+at-most-append m (x ∷ s) t h g = (h .0, at-most-append m s t (h .1) g)
 
 pub line-append : (s t : List ℕ) (o : ℕ) → AtMost o s → lineOf (s ++ t) o ≡ length s + lineOf t o
 unfolding lineOf
@@ -121,7 +131,7 @@ module _ (n : ℕ) (s : List ℕ) (low : AtMost n s) (t : List ℕ) (o : ℕ) wh
 
 -- ---- rising starts
 
-pub rising-snoc : (s : List ℕ) (o : ℕ) → StrictlyRising s → getD s (length s - 1) 0 < o → StrictlyRising (s ++ (o ∷ []))
+pub rising-snoc : (s : List ℕ) (o : ℕ) → StrictlyRising s → lineStart s (length s) < o → StrictlyRising (s ++ (o ∷ []))
 rising-snoc s o r h k g =
     let more : suc k < length s + 1 = rw length-append at g in
     ⊎-elim
@@ -135,7 +145,7 @@ rising-snoc s o r h k g =
     (either (ltb (suc k) (length s)))
 
 -- the last of rising starts bounds them all
-pub rising-at-most : (s : List ℕ) (m : ℕ) → StrictlyRising s → getD s (length s - 1) 0 ≤ m → AtMost m s
+pub rising-at-most : (s : List ℕ) (m : ℕ) → StrictlyRising s → lineStart s (length s) ≤ m → AtMost m s
 rising-at-most [] m r h = tt
 rising-at-most (x ∷ []) m r h = (h, tt)
 rising-at-most (x ∷ y ∷ s) m r h =

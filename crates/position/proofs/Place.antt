@@ -9,6 +9,7 @@ use lib.Seq.{getD-take, length-take-le}
 use borrow.Author.Tests.{leb-true, eqb-true, le-leb, eq-eqb}
 use Rattle.basics.proofs.Choice.{and-split}
 use Rattle.position.specs.declared.File.{File}
+use Rattle.position.specs.Lines.{lineStart}
 use Rattle.position.specs.Place.{placed, fitting, starts}
 use Rattle.position.proofs.Lines.{FromZero}
 
@@ -46,5 +47,5 @@ module _ (f : File) (table : List ℕ) (k : Fit f table) where
   }
 
   -- the last start, in the table and among the starts
-  pub last-start : getD (starts f table) (length (starts f table) - 1) 0 ≡ getD table (f .lines - 1) 0
+  pub last-start : lineStart (starts f table) (length (starts f table)) ≡ lineStart table (f .lines)
   last-start = rw (starts-length, getD-take (f .lines) table (f .lines - 1) 0 (omega (arith, k .some)))

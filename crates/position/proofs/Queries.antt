@@ -4,13 +4,12 @@ use mathlib.Core.Path.{_≡_, sym, _∙_}
 use mathlib.Core.Bool.{true, false}
 use mathlib.Core.List.{List}
 use native.Mathlib.Omega.{arith}
-use lib.ListN.{getD}
 use lib.Seq.{getD-take}
 use borrow.Author.Tests.{le-leb, lt-leb}
 use Rattle.basics.proofs.Choice.{in-between, below-it, above-it}
 use Rattle.refusal.specs.Outcome.{refused, gave}
 use Rattle.position.specs.declared.File.{File}
-use Rattle.position.specs.Lines.{lineOf, startOf, columnOf, positionAt}
+use Rattle.position.specs.Lines.{lineOf, lineStart, startOf, columnOf, positionAt}
 use Rattle.position.specs.Place.{placed, fitting, starts}
 use Rattle.position.specs.Queries.{posOf, positionOf, lineStartOf}
 use Rattle.position.proofs.Lines.{line-count, line-one, start-below}
@@ -47,6 +46,12 @@ module _ (f : File) (table : List ℕ) (p : ℕ) where
     unfolding positionOf
     position-gave h g = rw (e, in-between _ _ _ h g)
 
+-- an offset's position leads back to it
+pub position-pos : (f : File) (table : List ℕ) (o : ℕ) → fitting f table ≡ true → o ≤ f .size → positionOf f table (f .base + o) ≡ gave (positionAt (starts f table) o)
+position-pos f table o e h =
+    let back : f .base + o - f .base ≡ o = omega arith in
+    rw back at (position-gave f table (f .base + o) e (omega arith) (omega arith))
+
 module _ (f : File) (table : List ℕ) (line o : ℕ) where
   pub start-unfit : fitting f table ≡ false → lineStartOf f table line o ≡ refused 6
   unfolding lineStartOf
@@ -68,11 +73,11 @@ module _ (f : File) (table : List ℕ) (line o : ℕ) where
         start-past g = rw (e, le-leb _ _ h, above-it 1 line (f .lines) some g)
 
         module _ (held : line ≤ f .lines) where
-          pub start-above : o < getD table (line - 1) 0 → lineStartOf f table line o ≡ refused 6
+          pub start-above : o < lineStart table line → lineStartOf f table line o ≡ refused 6
           unfolding lineStartOf
           start-above g = rw (e, le-leb _ _ h, in-between 1 line (f .lines) some held, lt-leb _ _ g)
 
-          pub start-gave : getD table (line - 1) 0 ≤ o → lineStartOf f table line o ≡ gave (f .base + getD table (line - 1) 0)
+          pub start-gave : lineStart table line ≤ o → lineStartOf f table line o ≡ gave (f .base + lineStart table line)
           unfolding lineStartOf
           start-gave g = rw (e, le-leb _ _ h, in-between 1 line (f .lines) some held, le-leb _ _ g)
 
@@ -80,7 +85,7 @@ module _ (f : File) (table : List ℕ) (line o : ℕ) where
 pub record Found (f : File) (table : List ℕ) (o line : ℕ) : Type 0 where
   pub some : 1 ≤ line
   pub held : line ≤ f .lines
-  pub low : getD table (line - 1) 0 ≤ o
+  pub low : lineStart table line ≤ o
 
 -- an offset's line is one
 module _ (f : File) (table : List ℕ) (k : Fit f table) (o : ℕ) where
@@ -90,7 +95,7 @@ module _ (f : File) (table : List ℕ) (k : Fit f table) (o : ℕ) where
   line-some : 1 ≤ lineOf (starts f table) o
   line-some = line-one (starts f table) o (from-zero f table k)
 
-  start-read : getD table (lineOf (starts f table) o - 1) 0 ≡ startOf (starts f table) o
+  start-read : lineStart table (lineOf (starts f table) o) ≡ startOf (starts f table) o
   unfolding startOf
   start-read = sym (getD-take (f .lines) table (lineOf (starts f table) o - 1) 0 (omega (arith, line-held, line-some)))
 
@@ -104,6 +109,6 @@ module _ (f : File) (table : List ℕ) (k : Fit f table) (o : ℕ) where
 
 -- the place of a position, with its line found and the start read from the table
 pub position-read : (f : File) (table : List ℕ) (p : ℕ) {line : ℕ} → fitting f table ≡ true → f .base ≤ p → p - f .base ≤ f .size → line ≡ lineOf (starts f table) (p - f .base)
-    → positionOf f table p ≡ gave (record { offset = p - f .base; line = line; column = p - f .base - getD table (line - 1) 0 + 1 })
+    → positionOf f table p ≡ gave (record { offset = p - f .base; line = line; column = p - f .base - lineStart table line + 1 })
 unfolding columnOf
 position-read f table p e h g k = position-gave f table p e h (omega arith) ∙ rw (k, start-read f table (fit f table e) (p - f .base))

@@ -11,10 +11,15 @@ unfoldable pub lineOf : List ℕ → ℕ → ℕ
 lineOf [] o = 0
 lineOf (x ∷ xs) o = cond (ltb o x) 0 (suc (lineOf xs o))
 
--- the start before that one
-unfoldable pub startOf : List ℕ → ℕ → ℕ
-startOf starts o = getD starts (lineOf starts o - 1) 0
+-- the start of a line, whose number counts from 1
+abbrev pub lineStart : List ℕ → ℕ → ℕ
+lineStart starts line = getD starts (line - 1) 0
 
+-- the start before the first that is above the offset
+unfoldable pub startOf : List ℕ → ℕ → ℕ
+startOf starts o = lineStart starts (lineOf starts o)
+
+-- the offset minus that start, plus 1
 unfoldable pub columnOf : List ℕ → ℕ → ℕ
 columnOf starts o = o - startOf starts o + 1
 

@@ -3,15 +3,14 @@ use Prim.Native.Nat.{ℕ, _+_, _-_}
 use mathlib.Core.Bool.{cond, _&&_}
 use mathlib.Core.List.{List}
 use lib.Dec.{leb}
-use lib.ListN.{getD}
 use Rattle.basics.specs.Between.{between}
 use Rattle.refusal.specs.Outcome.{Outcome, refused, gave}
 use Rattle.position.specs.declared.File.{File}
 use Rattle.position.specs.declared.Position.{Position}
-use Rattle.position.specs.Lines.{positionAt}
+use Rattle.position.specs.Lines.{lineStart, positionAt}
 use Rattle.position.specs.Place.{placed, fitting, starts}
 
--- base + offset
+-- base + offset, of an offset up to the size
 unfoldable pub posOf : File → ℕ → Outcome ℕ
 posOf f o = cond (placed f) (cond (leb o (f .size)) (gave (f .base + o)) (refused 4)) (refused 6)
 
@@ -27,6 +26,6 @@ unfoldable pub lineStartOf : File → List ℕ → ℕ → ℕ → Outcome ℕ
 lineStartOf f table line o =
     cond (fitting f table && leb o (f .size))
     (cond (between 1 line (f .lines))
-    (cond (leb (getD table (line - 1) 0) o) (gave (f .base + getD table (line - 1) 0)) (refused 6))
+    (cond (leb (lineStart table line) o) (gave (f .base + lineStart table line)) (refused 6))
     (refused 5))
     (refused 6)
