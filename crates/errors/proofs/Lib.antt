@@ -1,0 +1,3 @@
+pub mod Sets
+pub mod Records
+pub mod Laws

@@ -1,0 +1,56 @@
+// The list of errors, in order of arrival, in a slice that the caller lends.
+ghost use mathlib.Core.Path.{_≡_};
+ghost use Rattle.errors.specs.Answers.{outcome, got};
+ghost use Rattle.errors.specs.Errors.{roomOf, addTo, getOf};
+
+mod layout;
+
+pub use layout::Error;
+
+// The number of errors after one was added, or the number of the refusal.
+pub enum Added {
+    Count(usize),
+    Refused(u8),
+}
+
+// The error asked for, nothing where the list has none there, or the number of the refusal.
+pub enum Got {
+    Found(Error),
+    Nothing,
+    Refused(u8),
+}
+
+// How many records a list holds.
+pub fn room(list: &[usize]) -> usize
+    ensures { λ r. ⌜ r ≡ roomOf (now (list .entry)) ⌝ }
+{
+    list.len() / layout::WIDTH
+}
+
+// Adds an error after the first `count`.
+pub fn add(list: &mut [usize], count: usize, error: Error) -> Added
+    ensures { λ r. ⌜ record { list = now (list .exit); outcome = outcome r } ≡ addTo (now (list .entry)) count error ⌝ }
+{
+    let most = room(list);
+    if count > most {
+        return Added::Refused(refusal::DOES_NOT_FIT);
+    }
+    if count == most {
+        return Added::Refused(refusal::LIST_FULL);
+    }
+    layout::write(list, count * layout::WIDTH, error);
+    Added::Count(count + 1)
+}
+
+// The error at an index, from 0, of a list of `count` errors.
+pub fn get(list: &[usize], count: usize, index: usize) -> Got
+    ensures { λ r. ⌜ got r ≡ getOf (now (list .entry)) count index ⌝ }
+{
+    if count > room(list) {
+        return Got::Refused(refusal::DOES_NOT_FIT);
+    }
+    if index >= count {
+        return Got::Nothing;
+    }
+    Got::Found(layout::read(list, index * layout::WIDTH))
+}

@@ -1,0 +1,22 @@
+-- `File::is_placed` meets its contract: size ≤ MAX_POS - base says that base + size ≤ MAX_POS where base does not pass it.
+use Prim.Native.Nat.{_+_, _-_}
+use native.Mathlib.Omega.{arith}
+use Rattle.position.specs.Place.{placed}
+use Rattle.position.proofs.Tests.{same-le}
+use Rattle.position.proofs.File.is_placed.Statement.{statement}
+use Rattle.position.proofs.File.is_placed.Tie as tie
+
+returns : tie.Need-returns
+unfolding placed
+returns c =
+    let f = c .before .before .args .self in
+    same-le (f .size) (4294967295 - f .base) (f .base + f .size) 4294967295 (λ h. omega arith) (λ h. omega arith)
+
+returns-2 : tie.Need-returns-2
+unfolding placed
+returns-2 c =
+    let f = c .before .args .self in
+    same-le (f .base) 4294967295 (f .base + f .size) 4294967295 (λ h. omega arith) (λ h. omega arith)
+
+pub is-placed-spec : {M : Type 1} → statement M
+is-placed-spec = tie.close (tie.spec returns returns-2)

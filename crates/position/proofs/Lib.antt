@@ -1,0 +1,5 @@
+pub mod Tests
+pub mod Lines
+pub mod Place
+pub mod Queries
+pub mod Adding

@@ -1,0 +1,30 @@
+-- One more line start.
+use Prim.Native.Nat.{ℕ, _+_}
+use mathlib.Core.Bool.{Bool, cond, _&&_}
+use mathlib.Core.List.{List}
+use lib.Dec.{ltb, eqb}
+use lib.ListN.{length, set}
+use Rattle.refusal.specs.Outcome.{Outcome, refused, gave}
+use Rattle.position.specs.declared.File.{File}
+use Rattle.position.specs.Lines.{lineStart}
+use Rattle.position.specs.Place.{fitting}
+
+-- what a call leaves in the table, and its outcome: the count of lines
+pub record After : Type 0 where
+  pub table : List ℕ
+  pub outcome : Outcome ℕ
+
+-- the offset is above the last start and below the size
+unfoldable pub starting : File → List ℕ → ℕ → Bool
+starting f table o = ltb (lineStart table (f .lines)) o && ltb o (f .size)
+
+-- such an offset is written after the starts, where there is room
+unfoldable pub addLine : File → List ℕ → ℕ → After
+addLine f table o =
+    cond (fitting f table)
+    (cond (starting f table o)
+    (cond (eqb (f .lines) (length table))
+    (record { table = table; outcome = refused 7 })
+    (record { table = set table (f .lines) o; outcome = gave (f .lines + 1) }))
+    (record { table = table; outcome = gave (f .lines) }))
+    (record { table = table; outcome = refused 6 })

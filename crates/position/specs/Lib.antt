@@ -1,0 +1,5 @@
+pub mod Lines
+pub mod Place
+pub mod Answers
+pub mod Queries
+pub mod Adding

@@ -1,0 +1,19 @@
+-- When a text's place among positions and its table of line starts go together.
+use Prim.Native.Nat.{ℕ, _+_}
+use mathlib.Core.Bool.{Bool, _&&_}
+use mathlib.Core.List.{List}
+use lib.Dec.{leb, eqb}
+use lib.ListN.{length, getD, take}
+use Rattle.position.specs.declared.File.{File}
+
+-- base + size is a position
+unfoldable pub placed : File → Bool
+placed f = leb (f .base + f .size) 4294967295
+
+-- besides, the line count is neither 0 nor above the table, and the first start is 0
+unfoldable pub fitting : File → List ℕ → Bool
+fitting f table = placed f && leb 1 (f .lines) && leb (f .lines) (length table) && eqb (getD table 0 0) 0
+
+-- the starts of the lines: the table's numbers up to the count
+abbrev pub starts : File → List ℕ → List ℕ
+starts f table = take (f .lines) table
