@@ -1,11 +1,13 @@
--- Laws of lists: the next element, and whether two lists are the same.
-use Prim.Native.Nat.{ℕ, suc, _+_, _≤_, _<_}
+-- Laws of lists: the next element, the element at an index, and whether two lists are the same.
+use Prim.Native.Nat.{ℕ, zero, suc, _+_, _≤_, _<_}
 use mathlib.Core.Path.{_≡_, refl, ap, ap₂}
 use mathlib.Core.Bool.{true, false, false≢true}
-use mathlib.Core.List.{List, [], _∷_}
+use mathlib.Core.Option.{none, some}
+use mathlib.Core.List.{List, [], _∷_, _++_}
+use native.Mathlib.Nat.{le-of-suc-le-suc, not-suc-le-zero}
 use native.Mathlib.Numerals.{add-one}
 use lib.Dec.{eqb}
-use lib.ListN.{length, drop, getD, drop-of-length-le}
+use lib.ListN.{length, drop, getD, getElem?, drop-of-length-le}
 use lib.Seq.{drop-cons}
 use borrow.Author.Tests.{eq-eqb, ne-eqb, eqb-true}
 use Rattle.basics.specs.Same.{same}
@@ -15,6 +17,28 @@ use Rattle.basics.proofs.Choice.{and-split, and-no}
 pub drop-next : {A : Type 0} (s : List A) (p : ℕ) (d : A) → p < length s → drop p s ≡ getD s p d ∷ drop (p + 1) s
 drop-next s p d h = rw (add-one, drop-cons s p d)
 
+-- within a list the default does not matter
+pub getD-any : {A : Type 0} (s : List A) (k : ℕ) (d e : A) → k < length s → getD s k d ≡ getD s k e
+getD-any [] k d e h = absurd (not-suc-le-zero h)
+getD-any (x ∷ s) zero d e h = refl
+getD-any (x ∷ s) (suc k) d e h = getD-any s k d e (le-of-suc-le-suc h)
+
+-- ---- the element at an index, if there is one
+pub at-append : {A : Type 0} (s t : List A) (i : ℕ) → i < length s → getElem? (s ++ t) i ≡ getElem? s i
+at-append [] t i h = absurd (not-suc-le-zero h)
+at-append (x ∷ s) t zero h = refl
+at-append (x ∷ s) t (suc i) h = at-append s t i (le-of-suc-le-suc h)
+
+pub at-end : {A : Type 0} (s : List A) (x : A) → getElem? (s ++ (x ∷ [])) (length s) ≡ some x
+at-end [] x = refl
+at-end (y ∷ s) x = at-end s x
+
+pub at-past : {A : Type 0} (s : List A) (i : ℕ) → length s ≤ i → getElem? s i ≡ none
+at-past [] i h = refl
+at-past (x ∷ s) zero h = absurd (not-suc-le-zero h)
+at-past (x ∷ s) (suc i) h = at-past s i (le-of-suc-le-suc h)
+
+-- ---- whether two lists are the same
 pub same-refl : (a : List ℕ) → same a a ≡ true
 unfolding same
 same-refl [] = refl

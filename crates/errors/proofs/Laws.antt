@@ -6,14 +6,16 @@ use mathlib.Core.List.{List, [], _∷_, _++_}
 use mathlib.Core.Logic.{⊎-elim}
 use mathlib.Core.Option.{none, some}
 use native.Mathlib.Numerals.{add-one}
-use native.Mathlib.Nat.{le-of-suc-le-suc, not-suc-le-zero}
+use native.Mathlib.Nat.{not-suc-le-zero}
 use native.Mathlib.Omega.{arith}
 use lib.Dec.{leb, ltb}
 use lib.ListN.{length, take, getElem?, length-append}
 use lib.Seq.{sets, length-sets, take-append-le, take-all}
 use borrow.Author.Tests.{le-leb, lt-leb, lt-ltb, le-ltb, leb-true, ltb-true, leb-false, ltb-false}
 use Rattle.basics.proofs.Choice.{either}
-use Rattle.refusal.specs.Outcome.{Outcome, refused, gave}
+use Rattle.basics.proofs.Lists.{at-append, at-end, at-past}
+use Rattle.refusal.specs.Outcome.{refused, gave}
+use Rattle.refusal.proofs.Outcomes.{refused-gave}
 use Rattle.errors.specs.declared.layout.Error.{Error}
 use Rattle.errors.specs.Layout.{width, numbers, errorAt}
 use Rattle.errors.specs.Errors.{roomOf, errorsOf, After, addTo, getOf}
@@ -47,20 +49,6 @@ errors-kept zero l at vs h = refl
 errors-kept (suc n) l at vs h = rw (errors-kept n l at vs (omega arith), error-kept l at vs (n * width) (omega arith))
 
 -- ---- the error at an index
-
-at-append : {A : Type 0} (s t : List A) (i : ℕ) → i < length s → getElem? (s ++ t) i ≡ getElem? s i
-at-append [] t i h = absurd (not-suc-le-zero h)
-at-append (x ∷ s) t zero h = refl
-at-append (x ∷ s) t (suc i) h = at-append s t i (le-of-suc-le-suc h)
-
-at-end : {A : Type 0} (s : List A) (x : A) → getElem? (s ++ (x ∷ [])) (length s) ≡ some x
-at-end [] x = refl
-at-end (y ∷ s) x = at-end s x
-
-at-past : {A : Type 0} (s : List A) (i : ℕ) → length s ≤ i → getElem? s i ≡ none
-at-past [] i h = refl
-at-past (x ∷ s) zero h = absurd (not-suc-le-zero h)
-at-past (x ∷ s) (suc i) h = at-past s i (le-of-suc-le-suc h)
 
 pub errors-past : (n : ℕ) (l : List ℕ) (i : ℕ) → n ≤ i → getElem? (errorsOf n l) i ≡ none
 errors-past n l i h = at-past (errorsOf n l) i (rw errors-length h)
@@ -127,10 +115,6 @@ module _ (l : List ℕ) (n i : ℕ) where
   get-found h g = rw (le-leb _ _ h, errors-at n l i g)
 
 -- ---- what adding keeps, and what it adds
-
--- no answer both refuses and gives
-refused-gave : {A : Type 0} {m n : ℕ} → _≡_ {A = Outcome ℕ} (refused m) (gave n) → A
-refused-gave e = let z : _≡_ {A = ℕ} 0 1 = cc in absurd (omega arith)
 
 module _ {l : List ℕ} {n : ℕ} {e : Error} where
   kept-length : {x : After} → Adds l n e x → length (x .list) ≡ length l

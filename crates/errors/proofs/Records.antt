@@ -8,7 +8,7 @@ use lib.ListN.{length, set}
 use lib.Seq.{sets}
 use Rattle.errors.specs.declared.layout.Error.{Error}
 use Rattle.errors.specs.Layout.{width, numbers, errorAt}
-use Rattle.errors.proofs.Sets.{getD-sets-before, getD-sets-in}
+use Rattle.basics.proofs.Sets.{getD-sets-before, getD-sets-in}
 
 -- the numbers, written one by one
 pub sets-numbers : (l : List ℕ) (at : ℕ) (e : Error) → set (set (set (set l at (e .offset)) (at + 1) (e .line)) (at + 2) (e .column)) (at + 3) (e .number) ≡ sets l at (numbers e)

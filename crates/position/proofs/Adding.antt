@@ -1,5 +1,5 @@
 -- What adding a line start comes to, case by case, and what it keeps.
-use Prim.Native.Nat.{ℕ, _+_, _-_, _≤_, _<_}
+use Prim.Native.Nat.{ℕ, _+_, _≤_, _<_}
 use mathlib.Core.Path.{_≡_, refl, _∙_}
 use mathlib.Core.Bool.{true, false, cond}
 use mathlib.Core.List.{List, [], _∷_, _++_}
@@ -11,7 +11,8 @@ use lib.ListN.{length, set, take, length-set}
 use lib.Seq.{take-suc-set, take-set-le, getD-set-other}
 use borrow.Author.Tests.{lt-ltb, le-ltb, eq-eqb, ne-eqb, ltb-true, eqb-true, eqb-false}
 use Rattle.basics.proofs.Choice.{either, and-no, and-split}
-use Rattle.refusal.specs.Outcome.{Outcome, refused, gave}
+use Rattle.refusal.specs.Outcome.{refused, gave}
+use Rattle.refusal.proofs.Outcomes.{refused-gave}
 use Rattle.position.specs.declared.File.{File}
 use Rattle.position.specs.Lines.{lineStart, StrictlyRising}
 use Rattle.position.specs.Place.{fitting, starts}
@@ -89,10 +90,6 @@ withLines f n = record { base = f .base; size = f .size; lines = n }
 -- one start more comes after the others
 pub set-starts : (f : File) (table : List ℕ) (o : ℕ) → f .lines < length table → take (f .lines + 1) (set table (f .lines) o) ≡ starts f table ++ (o ∷ [])
 set-starts f table o h = rw (add-one, take-suc-set)
-
--- no answer both refuses and gives
-refused-gave : {A : Type 0} {m n : ℕ} → _≡_ {A = Outcome ℕ} (refused m) (gave n) → A
-refused-gave e = let z : _≡_ {A = ℕ} 0 1 = cc in absurd (omega arith)
 
 module _ {f : File} {table : List ℕ} {o : ℕ} where
   kept-length : {x : After} → Adds f table o x → length (x .table) ≡ length table

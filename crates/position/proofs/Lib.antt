@@ -1,4 +1,3 @@
-pub mod Tests
 pub mod Lines
 pub mod Place
 pub mod Queries

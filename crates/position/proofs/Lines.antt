@@ -11,9 +11,9 @@ use lib.ListN.{length, drop, getD, drop-of-length-le, length-append, length-map,
 use lib.Seq.{getD-append-add, getD-append-seam}
 use borrow.Author.Tests.{lt-ltb, le-ltb, ltb-true, ltb-false}
 use Rattle.basics.proofs.Choice.{cond-ind, either}
-use Rattle.basics.proofs.Lists.{drop-next}
+use Rattle.basics.proofs.Lists.{drop-next, getD-any}
+use Rattle.basics.proofs.Tests.{same-lt}
 use Rattle.position.specs.Lines.{lineOf, lineStart, startOf, columnOf, StrictlyRising}
-use Rattle.position.proofs.Tests.{same-lt}
 
 -- one start more, from the place p on
 module _ (s : List ℕ) (o p : ℕ) where
@@ -105,12 +105,6 @@ pub line-raised : (n : ℕ) (s : List ℕ) (o : ℕ) → lineOf (map (λ x. n + 
 unfolding lineOf
 line-raised n [] o = refl
 line-raised n (x ∷ s) o = rw (line-raised-by n x o, line-raised n s o)
-
--- inside a list it does not matter what stands past its end
-getD-any : {A : Type 0} (s : List A) (k : ℕ) (d e : A) → k < length s → getD s k d ≡ getD s k e
-getD-any [] k d e h = absurd (not-suc-le-zero h)
-getD-any (x ∷ s) zero d e h = refl
-getD-any (x ∷ s) (suc k) d e h = getD-any s k d e (le-of-suc-le-suc h)
 
 pub column-raised : (n : ℕ) (s : List ℕ) (o : ℕ) → 1 ≤ length s → columnOf (map (λ x. n + x) s) (n + o) ≡ columnOf s o
 unfolding columnOf startOf

@@ -2,7 +2,7 @@
 use Prim.Native.Nat.{_+_, _-_}
 use native.Mathlib.Omega.{arith}
 use Rattle.position.specs.Place.{placed}
-use Rattle.position.proofs.Tests.{same-le}
+use Rattle.basics.proofs.Tests.{same-le}
 use Rattle.position.proofs.File.is_placed.Statement.{statement}
 use Rattle.position.proofs.File.is_placed.Tie as tie
 
