@@ -1,10 +1,12 @@
-// The answers of the line table and of the error list at their edges: one line a case, its label and what it comes to.
+// The answers of the leaf crates at their edges: one line a case, its label and what it comes to.
 mod lists;
 mod places;
 mod show;
 mod starts;
+mod texts;
 
 fn main() {
+    texts::print();
     places::print();
     starts::print();
     lists::print();

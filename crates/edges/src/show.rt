@@ -6,6 +6,8 @@ use libc::STDOUT_FILENO;
 use position::Answer;
 use position::Located;
 use position::Position;
+use utf8::Char;
+use utf8::Checked;
 
 fn text(s: &[u8]) {
     io::write_all(STDOUT_FILENO, s);
@@ -94,5 +96,22 @@ pub(crate) fn got(label: &[u8], a: Got) {
         Got::Found(e) => error(e),
         Got::Nothing => text(b": nothing\n"),
         Got::Refused(n) => refused(n),
+    }
+}
+
+pub(crate) fn character(label: &[u8], c: Char) {
+    text(label);
+    text(b": code");
+    digits(c.code as usize);
+    text(b" width");
+    digits(c.width);
+    text(b"\n");
+}
+
+pub(crate) fn checked(label: &[u8], a: Checked) {
+    text(label);
+    match a {
+        Checked::Valid(n) => number(b", characters", n),
+        Checked::Bad(at) => number(b", bad byte at", at),
     }
 }
