@@ -123,7 +123,7 @@ first-ascii : (s : List ℕ) → 0 < length s → getD s 0 0 < 0x80 → firstCha
 unfolding decoded
 first-ascii s z h = rw (first-is s z, sequence-one (getD s 0 0) (getD s 1 0) (getD s 2 0) (getD s 3 0) h)
 
-ascii-there : (s : List ℕ) (p : ℕ) → p < length s → getD s p 0 < 0x80 → firstChar (drop p s) ≡ ascii (getD s p 0)
+pub ascii-there : (s : List ℕ) (p : ℕ) → p < length s → getD s p 0 < 0x80 → firstChar (drop p s) ≡ ascii (getD s p 0)
 ascii-there s p h l =
     let b : getD (drop p s) 0 0 ≡ getD s p 0 = simp (getD-drop, add-zero) in
     rw b at (first-ascii (drop p s) (omega (arith, length-drop p s)) (rw b l))
