@@ -5,6 +5,7 @@ use mathlib.Core.Bool.{true, false, false≢true}
 use mathlib.Core.Option.{none, some}
 use mathlib.Core.List.{List, [], _∷_, _++_}
 use native.Mathlib.Nat.{le-of-suc-le-suc, not-suc-le-zero}
+use native.Mathlib.Omega.{arith}
 use native.Mathlib.Numerals.{add-one}
 use lib.Dec.{eqb}
 use lib.ListN.{length, drop, getD, getElem?, drop-of-length-le}
@@ -22,6 +23,12 @@ pub getD-any : {A : Type 0} (s : List A) (k : ℕ) (d e : A) → k < length s �
 getD-any [] k d e h = absurd (not-suc-le-zero h)
 getD-any (x ∷ s) zero d e h = refl
 getD-any (x ∷ s) (suc k) d e h = getD-any s k d e (le-of-suc-le-suc h)
+
+-- what is not the default 0 stands within the list
+pub reach : (s : List ℕ) (i : ℕ) → 0 < getD s i 0 → i < length s
+reach [] i h = absurd (not-suc-le-zero h)
+reach (x ∷ s) zero h = omega arith
+reach (x ∷ s) (suc i) h = omega (arith, reach s i h)
 
 -- ---- the element at an index, if there is one
 pub at-append : {A : Type 0} (s t : List A) (i : ℕ) → i < length s → getElem? (s ++ t) i ≡ getElem? s i

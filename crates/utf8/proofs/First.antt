@@ -3,11 +3,13 @@ use Prim.Native.Nat.{ℕ, zero, suc, pred, _+_, _*_, _%_, _≤_, _<_}
 use mathlib.Core.Path.{_≡_, refl, sym, ap, _∙_}
 use mathlib.Core.List.{List, [], _∷_}
 use native.Mathlib.Omega.{arith}
+use native.Mathlib.Decide.{decLt}
 use native.Mathlib.Nat.{add-zero, not-suc-le-zero}
-use lib.Dec.{lit≤}
+use lib.Dec.{eqb, lit≤}
 use lib.ListN.{length, getD, drop, length-drop, drop-of-length-le}
 use lib.Seq.{getD-drop, drop-drop}
-use borrow.Author.Tests.{lt-ltb}
+use borrow.Author.Tests.{lt-ltb, ne-eqb}
+use Rattle.basics.proofs.Lists.{reach}
 use Rattle.utf8.specs.declared.Char.{Char}
 use Rattle.utf8.specs.Chars.{charOf, firstChar, charAt, charsFrom, chars}
 use Rattle.utf8.specs.Bytes.{decoded}
@@ -49,11 +51,6 @@ width-fits L (two k l m n) z f g h = f (omega arith)
 width-fits {c = c} L (three k l m n o p) z f g h = g (omega arith)
 width-fits L (four k l m n o p q r) z f g h = h (omega arith)
 
-reach : (s : List ℕ) (i : ℕ) → 0 < getD s i 0 → i < length s
-reach [] i h = absurd (not-suc-le-zero h)
-reach (x ∷ s) zero h = omega arith
-reach (x ∷ s) (suc i) h = omega (arith, reach s i h)
-
 pub first-least : (s : List ℕ) → 1 ≤ firstChar s .width
 unfolding firstChar decoded
 first-least [] = lit≤ tt
@@ -92,7 +89,7 @@ chars-step (b ∷ s) h =
     ap (λ l. firstChar (b ∷ s) ∷ l) (chars-skip (pred (firstChar (b ∷ s) .width)) s
     ∙ ap chars (sym (drop-pred (firstChar (b ∷ s) .width) b s (first-least (b ∷ s)))))
 
-chars-at : (s : List ℕ) (p : ℕ) → p < length s → chars (drop p s) ≡ firstChar (drop p s) ∷ chars (drop (p + firstChar (drop p s) .width) s)
+pub chars-at : (s : List ℕ) (p : ℕ) → p < length s → chars (drop p s) ≡ firstChar (drop p s) ∷ chars (drop (p + firstChar (drop p s) .width) s)
 chars-at s p h =
     chars-step (drop p s) (omega (arith, length-drop p s))
     ∙ ap (λ l. firstChar (drop p s) ∷ chars l) (drop-drop (firstChar (drop p s) .width) p s)
@@ -161,6 +158,16 @@ pub there-high : (s : List ℕ) (p : ℕ) → p < length s → 0x80 ≤ getD s p
 there-high s p h l =
     let b : getD (drop p s) 0 0 ≡ getD s p 0 = simp (getD-drop, add-zero) in
     first-high (drop p s) (omega (arith, length-drop p s)) (rw b l)
+
+-- so a test for an ASCII character may be made on the byte
+pub code-there : (s : List ℕ) (p x : ℕ) → p < length s → x < 0x80 → eqb (firstChar (drop p s) .code) x ≡ eqb (getD s p 0) x
+code-there s p x h l =
+    elim (decLt (getD s p 0) 0x80) [
+      | yes k ↦ ap (λ c. eqb (c .code) x) (ascii-there s p h k)
+      | no k ↦ let c = firstChar (drop p s) .code in
+      let g : 0x80 ≤ c = there-high s p h (omega arith) in
+      ne-eqb c x (λ e. omega arith) ∙ sym (ne-eqb (getD s p 0) x (λ e. omega arith))
+    ]
 
 -- ---- no more characters than bytes
 chars-le-from : (k : ℕ) (s : List ℕ) → length (charsFrom k s) ≤ length s

@@ -7,6 +7,7 @@ ghost use mathlib.Core.Path.{_≡_};
 ghost use Rattle.utf8.specs.Chars.{charAt, isStray, checked};
 pub use encode::encoded_byte;
 pub use encode::encoded_len;
+pub use sequence::byte;
 pub use sequence::sequence_len;
 
 // A character: its code and the number of bytes that it is written in.

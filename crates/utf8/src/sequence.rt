@@ -28,7 +28,7 @@ fn within(lo: u8, b: u8, hi: u8) -> bool
 }
 
 // The byte at a place, 0 past the end.
-pub(crate) fn byte(s: &[u8], at: usize) -> u8
+pub fn byte(s: &[u8], at: usize) -> u8
     ensures { λ r. ⌜ r ≡ getD (now (s .entry)) at 0 ⌝ }
 {
     if at < s.len() { s[at] } else { 0 }

@@ -1,0 +1,2 @@
+// Numbers.
+mod run;

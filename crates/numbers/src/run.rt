@@ -1,0 +1,62 @@
+// Runs of digits with underscores between.
+ghost use mathlib.Core.Path.{_≡_};
+ghost use mathlib.Core.Bool.{false};
+ghost use Prim.Native.Nat.{_≤_};
+ghost use lib.ListN.{drop};
+ghost use Rattle.utf8.specs.Chars.{chars};
+ghost use Rattle.numbers.specs.Run.{run, strictRun};
+
+// A run of digits and underscores: how many characters it has, and whether an underscore is misplaced where it stopped.
+pub(crate) struct Digits {
+    pub(crate) len: usize,
+    pub(crate) misplaced: bool,
+}
+
+// The run at a place: digits below the base, and single underscores.
+pub(crate) fn scan_digits(src: &[u8], at: usize, base: u8) -> Digits
+    requires { ⌜ base ≤ 16 ⌝ }
+    ensures { λ r. ⌜ r ≡ run base false (chars (drop at (now (src .entry)))) ⌝ }
+{
+    let mut p = at;
+    let mut under = false;
+    while p < src.len() {
+        let b = src[p];
+        if digits::digit_val(b) < base {
+            under = false;
+            p += 1;
+        } else {
+            if b != 95 {
+                return Digits {
+                    len: p - at,
+                    misplaced: under,
+                };
+            }
+            if under {
+                return Digits {
+                    len: p - at,
+                    misplaced: true,
+                };
+            }
+            under = true;
+            p += 1;
+        }
+    }
+    Digits {
+        len: p - at,
+        misplaced: under,
+    }
+}
+
+// The same where no underscore may stand first.
+pub(crate) fn scan_strict_digits(src: &[u8], at: usize, base: u8) -> Digits
+    requires { ⌜ base ≤ 16 ⌝ }
+    ensures { λ r. ⌜ r ≡ strictRun base (chars (drop at (now (src .entry)))) ⌝ }
+{
+    if utf8::byte(src, at) == 95 {
+        return Digits {
+            len: 0,
+            misplaced: true,
+        };
+    }
+    scan_digits(src, at, base)
+}
