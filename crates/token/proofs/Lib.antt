@@ -1,0 +1,4 @@
+pub mod Ranges
+pub mod Table
+pub mod Numbers
+pub mod Search
