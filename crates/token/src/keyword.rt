@@ -82,7 +82,8 @@ fn each(text: &[u8], n: usize) -> u64
     let mut number: u64 = 0;
     while 0 < i {
         i -= 1;
-        number = number * 256 + text[i] as u64;
+        let byte = text[i] as u64;
+        number = number * 256 + byte;
     }
     number
 }

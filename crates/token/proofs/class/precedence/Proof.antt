@@ -18,9 +18,10 @@ level = value-within precedenceOf
 middle : (k : ℕ) → 21 ≤ k → k < 37 → (k ≡ 32 → ⊥) → (k ≡ 33 → ⊥) → 0 ≡ precedenceOf k
 unfolding precedenceOf
 middle k l h a b =
-    elim (decLt k 32)
-    [ yes u ↦ level 0 21 11 tt k l u
-    | no u ↦ level 0 34 3 tt k (omega arith) h ]
+    elim (decLt k 32) [
+      | yes u ↦ level 0 21 11 tt k l u
+      | no u ↦ level 0 34 3 tt k (omega arith) h
+    ]
 
 returns : tie.Need-returns
 unfolding precedenceOf

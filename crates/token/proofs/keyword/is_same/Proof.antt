@@ -39,10 +39,11 @@ loop-less : tie.Need-loop-less Inv-loop μ-loop
 loop-less c = search needs
 
 loop-again : tie.Need-loop-again Inv-loop μ-loop
-loop-again c =
-    (search needs,
-    c .before .before .before .before .loop .inv .1
-    ∙ same-next _ _ _ (c .before .before .before .loop-test .taken) (search needs) (c .if2 .left))
+loop-again c = (
+  search needs,
+  c .before .before .before .before .loop .inv .1
+      ∙ same-next _ _ _ (c .before .before .before .loop-test .taken) (search needs) (c .if2 .left),
+)
 
 returns-3 : tie.Need-returns-3 Inv-loop μ-loop
 returns-3 c = sym (c .before .loop .inv .1 ∙ same-end _ _ _ (c .loop-test .left) (search needs))
