@@ -1,66 +1,81 @@
--- The constant's rows are the table's names, padded: by computation at each kind.
-use Prim.Native.Nat.{ℕ, _<_}
-use mathlib.Core.Path.{_≡_, ap, ap₂}
-use mathlib.Core.Bool.{Bool, _&&_}
-use mathlib.Core.List.{List, [], map}
+-- The invariant: the array holds the bytes of the name that are passed.
+use Prim.Native.Nat.{_-_, _≤_, _<_}
+use mathlib.Core.Path.{_≡_, refl, sym, ap, ap₂, _∙_}
+use native.Mathlib.Omega.{arith}
 use borrow.Author.Needs.{needs}
-use lib.Dec.{T, eqb, eqb→eq}
-use lib.ListN.{length, getD}
-use Rattle.basics.specs.Same.{same}
-use Rattle.basics.proofs.Choice.{and-left, and-right}
-use Rattle.basics.proofs.Every.{every-entry}
-use Rattle.basics.proofs.Lists.{same-true}
-use Rattle.token.specs.Table.{Row, rowOf, table, specials, operators, keywords, nameOf}
-use Rattle.token.specs.Names.{padded}
+use lib.ListN.{length, set}
 use Rattle.token.specs.declared.names.Padded.{Padded}
-use Rattle.token.specs.declared.names.Entry.{Entry}
-use Rattle.token.proofs.Ranges.{true-of}
+use Rattle.token.specs.Names.{padded}
+use Rattle.token.specs.Table.{nameOf}
+use Rattle.token.proofs.Padding.{filled, filled-next, filled-whole, name-short, name-ends, name-goes-on}
 use Rattle.token.proofs.Table.{no-name}
 use Rattle.token.proofs.names.name.Statement.{statement}
 use Rattle.token.proofs.names.name.Tie as tie
 
-abbrev entry : Row → Entry
-entry row = record { 0 = padded (row .name) .bytes; 1 = length (row .name) }
+abbrev Inv-loop : tie.InvT-loop
+Inv-loop kind bytes₀ len₀ bytes len = (len ≤ length (nameOf kind)) × (bytes ≡ filled (nameOf kind) len)
 
--- the constant
-abbrev entries : List Entry
-entries = map entry table
+abbrev μ-loop : tie.MeasureT-loop
+μ-loop kind bytes₀ len₀ bytes len = 11 - len
 
-abbrev past : Entry
-past = record { 0 = []; 1 = 0 }
+returns : tie.Need-returns Inv-loop μ-loop
+returns c = ap padded (no-name (c .before .args .kind) (search needs) (search needs))
 
-abbrev right-bytes : ℕ → Entry → Bool
-right-bytes k e = same (e .0) (padded (nameOf k) .bytes)
+loop-holds : tie.Need-loop-holds Inv-loop μ-loop
+loop-holds c = (search needs, refl)
 
-abbrev right-len : ℕ → Entry → Bool
-right-len k e = eqb (e .1) (padded (nameOf k) .len)
+byte-of-requires : tie.Need-byte-of-requires Inv-loop μ-loop
+byte-of-requires c κs = search needs
 
-module _ (k : ℕ) (h : k < 82) where
-  right : T (right-bytes k (getD entries k past) && right-len k (getD entries k past))
-  unfolding rowOf table specials operators keywords same
-  right = every-entry (λ j e. right-bytes j e && right-len j e) entries past tt k h
+-- the whole name is passed
+whole : (c : tie.At-loop Inv-loop μ-loop)
+    → length (nameOf (c .before .before .args .kind)) ≤ c .loop .len
+    → _≡_ {A = Padded} (record { bytes = c .loop .bytes; len = c .loop .len }) (padded (nameOf (c .before .before .args .kind)))
+whole c h =
+    let end : c .loop .len ≡ length (nameOf (c .before .before .args .kind)) = omega arith in
+    ap (λ b. record { bytes = b; len = c .loop .len }) (c .loop .inv .1) ∙ filled-whole _ _ end
 
-  bytes-right : getD entries k past .0 ≡ padded (nameOf k) .bytes
-  bytes-right = same-true _ _ (true-of _ (and-left (right-bytes k (getD entries k past)) (right-len k (getD entries k past)) right))
+returns-2 : tie.Need-returns-2 Inv-loop μ-loop
+returns-2 c =
+    whole (c .before .before .before)
+    (name-ends _ (search needs) (c .before .before .before .loop .len) (sym (c .before .byte-of .ensures) ∙ c .if2 .taken))
 
-  len-right : getD entries k past .1 ≡ padded (nameOf k) .len
-  len-right = eqb→eq _ _ (and-right (right-bytes k (getD entries k past)) (right-len k (getD entries k past)) right)
+array-write-bytes : tie.Need-array-write-bytes Inv-loop μ-loop
+array-write-bytes c = search needs
 
-mul-entry : tie.Need-mul-entry
-mul-entry c = search needs
+add-len : tie.Need-add-len Inv-loop μ-loop
+add-len c = search needs
 
-array-copy-out-entry : tie.Need-array-copy-out-entry
-array-copy-out-entry c = search needs
+loop-less : tie.Need-loop-less Inv-loop μ-loop
+loop-less c = search needs
 
-returns : tie.Need-returns
-unfolding table specials operators keywords
-returns c =
-    let k = c .before .before .before .args .kind in
-    let h : k < 82 = search needs in
-    λ i. record { bytes = bytes-right k h i; len = len-right k h i }
+loop-again : tie.Need-loop-again Inv-loop μ-loop
+loop-again c =
+    let name = nameOf (c .before .before .before .before .before .args .kind) in
+    let len = c .before .before .before .loop .len in
+    let more : len < length name = name-goes-on name len (λ e. c .if2 .left (c .before .byte-of .ensures ∙ e)) in (
+      omega arith,
+      ap₂ (λ b x. set b len x) (c .before .before .before .loop .inv .1) (c .before .byte-of .ensures)
+          ∙ filled-next name len more (c .before .before .loop-test .taken),
+    )
 
-returns-2 : tie.Need-returns-2
-returns-2 c = ap padded (no-name (c .before .args .kind) (search needs) (search needs))
+returns-3 : tie.Need-returns-3 Inv-loop μ-loop
+returns-3 c =
+    let short = name-short (c .before .before .before .args .kind) (search needs) in
+    whole (c .before) (omega arith)
 
 pub name-spec : {M : Type 1} → statement M
-name-spec = tie.close (tie.spec mul-entry array-copy-out-entry returns returns-2)
+name-spec =
+    tie.close
+    (tie.spec
+    Inv-loop
+    μ-loop
+    returns
+    loop-holds
+    byte-of-requires
+    returns-2
+    array-write-bytes
+    add-len
+    loop-less
+    loop-again
+    returns-3)
