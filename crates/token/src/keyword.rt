@@ -61,7 +61,6 @@ fn ones(n: usize) -> u64
     ensures { λ r. ⌜ r ≡ 2 ^ (8 * n) - 1 ⌝ }
 {
     match n {
-        0 => 0,
         1 => 0xff,
         2 => 0xffff,
         3 => 0xff_ffff,
@@ -69,7 +68,8 @@ fn ones(n: usize) -> u64
         5 => 0xff_ffff_ffff,
         6 => 0xffff_ffff_ffff,
         7 => 0xff_ffff_ffff_ffff,
-        _ => 0xffff_ffff_ffff_ffff,
+        8 => 0xffff_ffff_ffff_ffff,
+        _ => 0,
     }
 }
 

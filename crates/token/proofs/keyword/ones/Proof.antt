@@ -1,14 +1,13 @@
--- Each arm's number by computation.
-use Prim.Native.Nat.{ℕ, _+_, _≤_, zero-le}
-use native.Mathlib.Nat.{le-antisymm}
+-- Each arm's number by computation; what is left is 0.
+use Prim.Native.Nat.{ℕ, _+_, _≤_}
 use mathlib.Core.Path.{_≡_}
 use native.Mathlib.Omega.{arith}
 use Rattle.token.proofs.keyword.ones.Statement.{statement}
 use Rattle.token.proofs.keyword.ones.Tie as tie
 
--- a number from m on that is none of four is past them
-past : (m n : ℕ) → m ≤ n → (n ≡ m → ⊥) → (n ≡ m + 1 → ⊥) → (n ≡ m + 2 → ⊥) → (n ≡ m + 3 → ⊥) → m + 4 ≤ n
-past m n h a b c d = omega arith
+-- a number up to m + 4 that is none of the last four is at most m
+under : (m n : ℕ) → n ≤ m + 4 → (n ≡ m + 1 → ⊥) → (n ≡ m + 2 → ⊥) → (n ≡ m + 3 → ⊥) → (n ≡ m + 4 → ⊥) → n ≤ m
+under m n h a b c d = omega arith
 
 returns : tie.Need-returns
 returns c = rw (c .match .keys1)
@@ -38,8 +37,9 @@ returns-9 : tie.Need-returns-9
 returns-9 c =
     let n = c .before .args .n in
     let r = c .match .rest in
-    let four = past 0 n zero-le (r .0 .0 .0 .0 .0 .0 .0 .1) (r .0 .0 .0 .0 .0 .0 .1) (r .0 .0 .0 .0 .0 .1) (r .0 .0 .0 .0 .1) in
-    let e : n ≡ 8 = le-antisymm (c .before .pre) (past 4 n four (r .0 .0 .0 .1) (r .0 .0 .1) (r .0 .1) (r .1)) in
+    let four = under 4 n (c .before .pre) (r .0 .0 .0 .1) (r .0 .0 .1) (r .0 .1) (r .1) in
+    let none = under 0 n four (r .0 .0 .0 .0 .0 .0 .0 .1) (r .0 .0 .0 .0 .0 .0 .1) (r .0 .0 .0 .0 .0 .1) (r .0 .0 .0 .0 .1) in
+    let e : n ≡ 0 = omega (arith, none) in
     rw e
 
 pub ones-spec : {M : Type 1} → statement M
