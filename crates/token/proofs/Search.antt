@@ -23,14 +23,14 @@ use Rattle.token.specs.Search.{numberOf, slotOf, slotOfWord, pair, rowIn
 use Rattle.token.proofs.Table.{none}
 use Rattle.token.proofs.Numbers.{Bytes, bytes-of, bytes-take, number-injective}
 
--- a word is the name of a row
-data Known (w : List ℕ) (rows : List Row) : Type 0 where
+-- a word is the name of a row of a list
+pub data Known (w : List ℕ) (rows : List Row) : Type 0 where
   known : (i : ℕ) → i < length rows → w ≡ getD rows i none .name → Known w rows
 
 later : (w : List ℕ) (row : Row) (rows : List Row) → Known w rows → Known w (row ∷ rows)
 later w row rows (known i h e) = known (suc i) (suc-le-suc h) e
 
-look : (w : List ℕ) (rows : List Row) → (kindNamed w rows ≡ IDENT) ⊎ Known w rows
+pub look : (w : List ℕ) (rows : List Row) → (kindNamed w rows ≡ IDENT) ⊎ Known w rows
 unfolding kindNamed
 look w [] = inl refl
 look w (row ∷ rows) =

@@ -5,10 +5,12 @@ use mathlib.Core.List.{List, [], _∷_}
 use lib.Dec.{eqb}
 use Rattle.token.specs.Kinds.{MUL, QUO, REM, SHL, SHR, AND, AND-NOT, ADD, SUB, OR, XOR, EQL, NEQ, LSS, LEQ, GTR, GEQ, LAND, LOR}
 
+-- whether a kind is in a list
 abbrev pub among : ℕ → List ℕ → Bool
 among k [] = false
 among k (n ∷ ns) = eqb k n || among k ns
 
+-- the operators of each level
 abbrev pub level5 : List ℕ
 level5 = MUL ∷ QUO ∷ REM ∷ SHL ∷ SHR ∷ AND ∷ AND-NOT ∷ []
 

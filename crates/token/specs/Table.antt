@@ -1,4 +1,4 @@
--- The one table of the kinds: number, class and name of each. Definitions look it up by kind or by name.
+-- The one table of the kinds: number, class and name of each, looked up by kind or by name.
 use Prim.Native.Nat.{ℕ}
 use Prim.Native.String.{String}
 use mathlib.Core.Bool.{Bool, true, false, cond}
@@ -6,19 +6,25 @@ use mathlib.Core.List.{List, [], _∷_, _++_}
 use lib.Dec.{eqb}
 use Rattle.basics.specs.Same.{same}
 use Rattle.basics.specs.Spelling.{spelled}
-use Rattle.token.specs.Kinds.{NONE, ILLEGAL, EOF, COMMENT, IDENT, INT, FLOAT, IMAG, CHAR, STRING, ADD, SUB, MUL, QUO, REM, AND, OR, XOR, SHL, SHR, AND-NOT, ADD-ASSIGN, SUB-ASSIGN, MUL-ASSIGN, QUO-ASSIGN, REM-ASSIGN, AND-ASSIGN, OR-ASSIGN, XOR-ASSIGN, SHL-ASSIGN, SHR-ASSIGN, AND-NOT-ASSIGN, LAND, LOR, ARROW, INC, DEC, EQL, LSS, GTR, ASSIGN, NOT, NEQ, LEQ, GEQ, DEFINE, ELLIPSIS, LPAREN, LBRACK, LBRACE, COMMA, PERIOD, RPAREN, RBRACK, RBRACE, SEMICOLON, COLON, BREAK, CASE, CHAN, CONST, CONTINUE, DEFAULT, DEFER, ELSE, FALLTHROUGH, FOR, FUNC, GO, GOTO, IF, IMPORT, INTERFACE, MAP, PACKAGE, RANGE, RETURN, SELECT, STRUCT, SWITCH, TYPE, VAR}
+use Rattle.token.specs.Kinds.{NONE, ILLEGAL, EOF, COMMENT, IDENT, INT, FLOAT, IMAG, CHAR, STRING}
+use Rattle.token.specs.Kinds.{ADD, SUB, MUL, QUO, REM, AND, OR, XOR, SHL, SHR, AND-NOT, ADD-ASSIGN, SUB-ASSIGN, MUL-ASSIGN, QUO-ASSIGN, REM-ASSIGN, AND-ASSIGN, OR-ASSIGN, XOR-ASSIGN, SHL-ASSIGN, SHR-ASSIGN, AND-NOT-ASSIGN}
+use Rattle.token.specs.Kinds.{LAND, LOR, ARROW, INC, DEC, EQL, LSS, GTR, ASSIGN, NOT, NEQ, LEQ, GEQ, DEFINE, ELLIPSIS, LPAREN, LBRACK, LBRACE, COMMA, PERIOD, RPAREN, RBRACK, RBRACE, SEMICOLON, COLON}
+use Rattle.token.specs.Kinds.{BREAK, CASE, CHAN, CONST, CONTINUE, DEFAULT, DEFER, ELSE, FALLTHROUGH, FOR, FUNC, GO, GOTO, IF, IMPORT, INTERFACE, MAP, PACKAGE, RANGE, RETURN, SELECT, STRUCT, SWITCH, TYPE, VAR}
 
+-- the classes of the kinds
 pub data Class : Type 0 where
   Literal : Class
   Operator : Class
   Keyword : Class
   Other : Class
 
+-- what the table says of a kind
 pub record Row : Type 0 where
   pub kind : ℕ
   pub class : Class
   pub name : List ℕ
 
+-- a row of each class, its name in quotes
 abbrev pub literal : ℕ → String → Row
 literal k s = record { kind = k; class = Literal; name = spelled s }
 
@@ -46,6 +52,7 @@ specials =
     literal STRING "STRING" ∷
     []
 
+-- operators and delimiters
 unfoldable pub operators : List Row
 operators =
     operator ADD "+" ∷
@@ -97,6 +104,7 @@ operators =
     operator COLON ":" ∷
     []
 
+-- the 25 keywords
 unfoldable pub keywords : List Row
 keywords =
     keyword BREAK "break" ∷
@@ -126,6 +134,7 @@ keywords =
     keyword VAR "var" ∷
     []
 
+-- all kinds, in the order of their numbers
 unfoldable pub table : List Row
 table = specials ++ operators ++ keywords
 
@@ -138,17 +147,20 @@ kindNamed word (row ∷ rows) = cond (same word (row .name)) (row .kind) (kindNa
 abbrev pub identToken : List ℕ → ℕ
 identToken word = kindNamed word keywords
 
--- the row of a kind; a number that is no kind has no name
+-- the row of a kind; a number that is no kind is of no class and has no name
 unfoldable pub rowOf : ℕ → List Row → Row
 rowOf k [] = other k ""
 rowOf k (row ∷ rows) = cond (eqb k (row .kind)) row (rowOf k rows)
 
+-- the name of a kind
 abbrev pub nameOf : ℕ → List ℕ
 nameOf k = rowOf k table .name
 
+-- the class of a kind
 abbrev pub classOf : ℕ → Class
 classOf k = rowOf k table .class
 
+-- whether a kind is of a class
 abbrev pub isLiteral : ℕ → Bool
 isLiteral k = elim (classOf k) [ Literal ↦ true | Operator ↦ false | Keyword ↦ false | Other ↦ false ]
 

@@ -45,7 +45,7 @@ fn four(a: u8, b: u8, c: u8, d: u8) -> u64
     a as u64 + b as u64 * 0x100 + c as u64 * 0x1_0000 + d as u64 * 0x100_0000
 }
 
-// The number that the first eight bytes of a text are. It is one load where it is compiled.
+// The number that the first eight bytes of a text are. (Compiled, it is one load.)
 fn eight(text: &[u8]) -> u64
     requires { ⌜ 8 ≤ length (now text) ⌝ }
     ensures { λ r. ⌜ r ≡ numberOf (take 8 (now (text .entry))) ⌝ }
@@ -103,7 +103,7 @@ fn number_of(text: &[u8], n: usize) -> u64
 // A keyword's kind, and its spelling as a number.
 struct Row(u8, u64);
 
-// The slot of a word: no two keywords have the same.
+// The slot of a word by its length and its first two bytes: no two keywords of at most eight bytes share one.
 fn slot_of(number: u64, n: usize) -> u64
     requires { ⌜ n ≤ 8 ⌝ }
     ensures { λ r. ⌜ r ≡ slotOf number n ⌝ }
@@ -143,6 +143,7 @@ fn row_in(slot: u64) -> Row
     }
 }
 
+// The lesser of two lengths.
 fn least(a: usize, b: usize) -> usize
     ensures { λ r. ⌜ r ≡ min a b ⌝ }
 {
@@ -150,6 +151,7 @@ fn least(a: usize, b: usize) -> usize
 }
 
 // The kind of the word that is the first `len` bytes of the text: its keyword, or IDENT.
+// A shorter text is the word. Bytes after the word may be read, and change nothing.
 pub fn ident_token(text: &[u8], len: usize) -> u8
     ensures { λ r. ⌜ r ≡ identToken (take len (now (text .entry))) ⌝ }
 {
