@@ -1,9 +1,8 @@
 -- Laws of the number that bytes are: a byte more, its size, its first bytes, and that it tells words of one length apart.
 use Prim.Native.Nat.{ℕ, zero, suc, _+_, _-_, _*_, _%_, _^_, _≤_, _<_}
-use mathlib.Core.Path.{_≡_, refl, ap, ap₂, sym, subst, _∙_}
-use mathlib.Core.Bool.{Bool, true, false, _&&_}
+use mathlib.Core.Path.{_≡_, refl, ap, ap₂, _∙_}
 use mathlib.Core.List.{List, [], _∷_}
-use native.Mathlib.Nat.{mod-one, zero-mod, lt-of-lt-of-le, le-of-suc-le-suc}
+use native.Mathlib.Nat.{mod-one, zero-mod, lt-of-lt-of-le}
 use native.Mathlib.Omega.{arith}
 use lib.Arith.{digits-lt, digits-div, digits-mod, mod-mul}
 use lib.Bits.{bitAnd, and-mask}

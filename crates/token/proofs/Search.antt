@@ -1,42 +1,25 @@
 -- The search by slot finds what the table of keywords says.
-use Prim.Native.Nat.{ℕ, zero, suc, _+_, _≤_, _<_, min, zero-le, suc-le-suc}
+use Prim.Native.Nat.{ℕ, suc, _≤_, _<_, min, zero-le, suc-le-suc}
 use mathlib.Core.Path.{_≡_, refl, sym, ap, _∙_}
 use mathlib.Core.Bool.{Bool, true, false, cond, _&&_, _||_}
 use mathlib.Core.List.{List, [], _∷_}
 use mathlib.Core.Logic.{_⊎_, inl, inr, ⊎-elim}
 use native.Mathlib.Decide.{decLe}
 use native.Mathlib.Omega.{arith}
-use borrow.Author.Tests.{leb-true, eqb-true, lt-leb, le-ltb, eq-eqb, ne-eqb}
+use borrow.Author.Tests.{leb-true, eqb-true, le-ltb, eq-eqb, ne-eqb}
 use lib.Dec.{T, eqb, leb, ltb, eqb→eq}
 use lib.ListN.{length, getD, take}
 use lib.Pow.{areBytes}
 use lib.Seq.{length-take-le, take-all, take-length}
-use Rattle.basics.specs.Same.{same}
-use Rattle.basics.specs.Spelling.{spelled}
 use Rattle.basics.proofs.Choice.{cond-ind, either, and-split, and-left, and-right}
 use Rattle.basics.proofs.Every.{every-entry}
-use Rattle.basics.proofs.Lists.{same-true}
-use Rattle.token.specs.Kinds.{IDENT, INTERFACE, FALLTHROUGH}
-use Rattle.token.specs.Table.{Row, keywords, kindNamed, identToken}
+use Rattle.token.specs.Kinds.{IDENT}
+use Rattle.token.specs.Table.{Row, keywords, identToken}
 use Rattle.token.specs.declared.keyword.Row.{Row as Coded}
 use Rattle.token.specs.Search.{numberOf, slotOf, slotOfWord, pair, rowIn}
 use Rattle.token.proofs.Table.{none}
+use Rattle.token.proofs.Words.{Known, known, look, keyword-found}
 use Rattle.token.proofs.Numbers.{Bytes, bytes-of, bytes-take, number-injective}
-
--- a word is the name of a row of a list
-pub data Known (w : List ℕ) (rows : List Row) : Type 0 where
-  known : (i : ℕ) → i < length rows → w ≡ getD rows i none .name → Known w rows
-
-later : (w : List ℕ) (row : Row) (rows : List Row) → Known w rows → Known w (row ∷ rows)
-later w row rows (known i h e) = known (suc i) (suc-le-suc h) e
-
-pub look : (w : List ℕ) (rows : List Row) → (kindNamed w rows ≡ IDENT) ⊎ Known w rows
-unfolding kindNamed
-look w [] = inl refl
-look w (row ∷ rows) =
-    ⊎-elim (λ (e : same w (row .name) ≡ true). inr (known 0 (suc-le-suc zero-le) (same-true w (row .name) e)))
-    (λ (e : same w (row .name) ≡ false). ⊎-elim (λ d. inl (rw e d)) (λ k. inr (later w row rows k)) (look w rows))
-    (either (same w (row .name)))
 
 -- the code's row of a keyword
 abbrev coded : Row → Coded
@@ -69,35 +52,24 @@ slot-held slot (row ∷ rows) =
 abbrev pub searched : ℕ → ℕ → ℕ
 searched number n = cond (eqb (rowIn (slotOf number n) keywords .1) number) (rowIn (slotOf number n) keywords .0) IDENT
 
--- what holds of each keyword: it is found, and it is of bytes
-abbrev is-found : Row → Bool
-is-found row = eqb (kindNamed (row .name) keywords) (row .kind)
-
+-- what holds of each keyword: it is of bytes, and if it has at most eight, the code finds it
 abbrev is-searched : Row → Bool
 is-searched row = ltb 8 (length (row .name)) || eqb (searched (numberOf (row .name)) (length (row .name))) (row .kind)
-
-abbrev is-right : ℕ → Row → Bool
-is-right i row = areBytes (row .name) && (is-found row && is-searched row)
 
 module _ (i : ℕ) (h : i < length keywords) where
   row : Row
   row = getD keywords i none
 
-  right : T (is-right i row)
-  unfolding row keywords kindNamed same rowIn slotOf numberOf
-  right = every-entry is-right keywords none tt i h
+  right : T (areBytes (row .name) && is-searched row)
+  unfolding row keywords rowIn slotOf numberOf
+  right = every-entry (λ k r. areBytes (r .name) && is-searched r) keywords none tt i h
 
   keyword-bytes : Bytes (row .name)
-  keyword-bytes = bytes-of (row .name) (and-left (areBytes (row .name)) (is-found row && is-searched row) right)
-
-  keyword-found : identToken (row .name) ≡ row .kind
-  keyword-found = eqb→eq _ _ (and-left (is-found row) (is-searched row) (and-right (areBytes (row .name)) (is-found row && is-searched row) right))
-
-  searched-or-long : T (is-searched row)
-  searched-or-long = and-right (is-found row) (is-searched row) (and-right (areBytes (row .name)) (is-found row && is-searched row) right)
+  keyword-bytes = bytes-of (row .name) (and-left (areBytes (row .name)) (is-searched row) right)
 
   keyword-searched : length (row .name) ≤ 8 → searched (numberOf (row .name)) (length (row .name)) ≡ row .kind
-  keyword-searched l = eqb→eq _ _ (rw (le-ltb 8 (length (row .name)) l) at searched-or-long)
+  keyword-searched l =
+      eqb→eq _ _ (rw (le-ltb 8 (length (row .name)) l) at (and-right (areBytes (row .name)) (is-searched row) right))
 
 -- of two lengths up to eight, one number has two slots
 same-slot : (x n m : ℕ) → n ≤ 8 → m ≤ 8 → slotOf x n ≡ slotOf x m → n ≡ m
@@ -165,25 +137,3 @@ word-searched s len n bytes e short =
     ∙ search-finds (take n s) (bytes-take n s bytes) (omega arith)
     ∙ ap (λ m. identToken (take m s)) e
     ∙ ap identToken (take-least len s)
-
-pub interface-named : (w : List ℕ) → same w (spelled "interface") ≡ true → INTERFACE ≡ identToken w
-unfolding keywords kindNamed same
-interface-named w e = ap identToken (sym (same-true w (spelled "interface") e))
-
-pub fallthrough-named : (w : List ℕ) → same w (spelled "fallthrough") ≡ true → FALLTHROUGH ≡ identToken w
-unfolding keywords kindNamed same
-fallthrough-named w e = ap identToken (sym (same-true w (spelled "fallthrough") e))
-
--- the keywords of more than eight bytes
-abbrev long-known : ℕ → Row → Bool
-long-known i row = leb (length (row .name)) 8 || (same (row .name) (spelled "interface") || same (row .name) (spelled "fallthrough"))
-
-pub long-unknown : (w : List ℕ) → 8 < length w → same w (spelled "interface") ≡ false → same w (spelled "fallthrough") ≡ false
-    → IDENT ≡ identToken w
-unfolding keywords same
-long-unknown w l a b = ⊎-elim (λ d. sym d) (λ k. absurd (spelt k)) (look w keywords)
-  where
-    spelt : Known w keywords → ⊥
-    spelt (known i h e) =
-        let t : T (long-known i (getD keywords i none)) = every-entry long-known keywords none tt i h in
-        simp (sym e, lt-leb (length w) 8 l, a, b) at t

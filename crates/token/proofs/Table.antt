@@ -1,9 +1,9 @@
 -- The place of each row of the table is its kind, and there are no names above the kinds.
 use Prim.Native.Nat.{ℕ, _≤_, _<_}
-use mathlib.Core.Path.{_≡_, refl}
-use mathlib.Core.Bool.{Bool, true, false}
-use mathlib.Core.List.{List, []}
-use lib.Dec.{T, eqb, eqb→eq}
+use mathlib.Core.Path.{_≡_}
+use mathlib.Core.Bool.{Bool}
+use mathlib.Core.List.{[]}
+use lib.Dec.{eqb, eqb→eq}
 use lib.ListN.{getD}
 use Rattle.basics.specs.Same.{same}
 use Rattle.basics.proofs.Every.{every-entry}

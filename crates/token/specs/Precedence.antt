@@ -1,6 +1,6 @@
 -- The five precedence levels of the binary operators, of the Go specification.
 use Prim.Native.Nat.{ℕ}
-use mathlib.Core.Bool.{Bool, true, false, cond, _||_}
+use mathlib.Core.Bool.{Bool, false, cond, _||_}
 use mathlib.Core.List.{List, [], _∷_}
 use lib.Dec.{eqb}
 use Rattle.token.specs.Kinds.{MUL, QUO, REM, SHL, SHR, AND, AND-NOT, ADD, SUB, OR, XOR, EQL, NEQ, LSS, LEQ, GTR, GEQ, LAND, LOR}

@@ -1,5 +1,4 @@
 -- What the two calls give is the sum of the eight bytes in their places.
-use mathlib.Core.Path.{_≡_, sym, _∙_}
 use native.Mathlib.Omega.{arith}
 use borrow.Author.Needs.{needs}
 use Rattle.token.proofs.Numbers.{number-eight}

@@ -1,7 +1,7 @@
 -- There are two long keywords, and no others.
 use mathlib.Core.Path.{sym, _∙_}
 use borrow.Author.Needs.{needs}
-use Rattle.token.proofs.Search.{interface-named, fallthrough-named, long-unknown}
+use Rattle.token.proofs.Words.{interface-named, fallthrough-named, long-unknown}
 use Rattle.token.proofs.keyword.long_word.Statement.{statement}
 use Rattle.token.proofs.keyword.long_word.Tie as tie
 

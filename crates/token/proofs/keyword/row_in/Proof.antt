@@ -1,5 +1,4 @@
 -- Each arm's row by computation; elsewhere no keyword has the slot.
-use mathlib.Core.Path.{_≡_}
 use borrow.Author.Tests.{ne-eqb}
 use Rattle.token.specs.Table.{keywords}
 use Rattle.token.specs.Search.{numberOf, slotOf, rowIn}
