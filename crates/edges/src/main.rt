@@ -4,9 +4,11 @@ mod places;
 mod show;
 mod starts;
 mod texts;
+mod words;
 
 fn main() {
     texts::print();
+    words::print();
     places::print();
     starts::print();
     lists::print();

@@ -1,0 +1,5 @@
+pub mod Kinds
+pub mod Table
+pub mod Precedence
+pub mod Names
+pub mod Search

@@ -1,0 +1,31 @@
+-- What the private functions of the keyword search give. No public contract cites these.
+use Prim.Native.Nat.{ℕ, _+_, _*_, _/_, _%_}
+use mathlib.Core.Bool.{cond, _&&_}
+use mathlib.Core.List.{List, [], _∷_}
+use lib.Dec.{eqb, leb}
+use lib.ListN.{length}
+use Rattle.token.specs.Kinds.{IDENT}
+use Rattle.token.specs.Table as Table
+use Rattle.token.specs.declared.keyword.Row.{Row}
+
+-- the number that bytes are, the first one lowest
+unfoldable pub numberOf : List ℕ → ℕ
+numberOf [] = 0
+numberOf (b ∷ bs) = numberOf bs * 256 + b
+
+-- the slot of a number of n bytes: by n and the first two bytes
+unfoldable pub slotOf : ℕ → ℕ → ℕ
+slotOf number n = (n + number % 256 * 8 + number / 256 % 256 * 59) % 64
+
+-- the slot of a word
+abbrev pub slotOfWord : List ℕ → ℕ
+slotOfWord word = slotOf (numberOf word) (length word)
+
+-- a row of the code: a kind and a spelling as a number
+abbrev pub pair : ℕ → ℕ → Row
+pair kind number = record { 0 = kind; 1 = number }
+
+-- the first keyword of at most eight bytes in a slot; where there is none, IDENT and 0
+unfoldable pub rowIn : ℕ → List Table.Row → Row
+rowIn slot [] = pair IDENT 0
+rowIn slot (k ∷ ks) = cond (leb (length (k .name)) 8 && eqb slot (slotOfWord (k .name))) (pair (k .kind) (numberOf (k .name))) (rowIn slot ks)
