@@ -3,12 +3,11 @@ use Prim.Native.Nat.{ℕ, zero, suc, pred, _+_, _*_, _%_, _≤_, _<_}
 use mathlib.Core.Path.{_≡_, refl, sym, ap, _∙_}
 use mathlib.Core.List.{List, [], _∷_}
 use native.Mathlib.Omega.{arith}
-use native.Mathlib.Decide.{decLt}
 use native.Mathlib.Nat.{add-zero, not-suc-le-zero}
-use lib.Dec.{eqb, lit≤}
+use lib.Dec.{lit≤}
 use lib.ListN.{length, getD, drop, length-drop, drop-of-length-le}
 use lib.Seq.{getD-drop, drop-drop}
-use borrow.Author.Tests.{lt-ltb, ne-eqb}
+use borrow.Author.Tests.{lt-ltb}
 use Rattle.basics.proofs.Lists.{reach}
 use Rattle.utf8.specs.declared.Char.{Char}
 use Rattle.utf8.specs.Chars.{charOf, firstChar, charAt, charsFrom, chars}
@@ -65,7 +64,7 @@ pub first-fits : (s : List ℕ) → 0 < length s → firstChar s .width ≤ leng
 unfolding decoded
 first-fits s h = rw (first-is s h) (width-fits (length s) (view (getD s 0 0) (getD s 1 0) (getD s 2 0) (getD s 3 0)) h (reach s 1) (reach s 2) (reach s 3))
 
-first-fits-at : (s : List ℕ) (p : ℕ) → p < length s → p + firstChar (drop p s) .width ≤ length s
+pub first-fits-at : (s : List ℕ) (p : ℕ) → p < length s → p + firstChar (drop p s) .width ≤ length s
 first-fits-at s p h =
     let e = length-drop p s in
     let f = first-fits (drop p s) (omega (arith, e)) in
@@ -158,16 +157,6 @@ pub there-high : (s : List ℕ) (p : ℕ) → p < length s → 0x80 ≤ getD s p
 there-high s p h l =
     let b : getD (drop p s) 0 0 ≡ getD s p 0 = simp (getD-drop, add-zero) in
     first-high (drop p s) (omega (arith, length-drop p s)) (rw b l)
-
--- so a test for an ASCII character may be made on the byte
-pub code-there : (s : List ℕ) (p x : ℕ) → p < length s → x < 0x80 → eqb (firstChar (drop p s) .code) x ≡ eqb (getD s p 0) x
-code-there s p x h l =
-    elim (decLt (getD s p 0) 0x80) [
-      | yes k ↦ ap (λ c. eqb (c .code) x) (ascii-there s p h k)
-      | no k ↦ let c = firstChar (drop p s) .code in
-      let g : 0x80 ≤ c = there-high s p h (omega arith) in
-      ne-eqb c x (λ e. omega arith) ∙ sym (ne-eqb (getD s p 0) x (λ e. omega arith))
-    ]
 
 -- ---- no more characters than bytes
 chars-le-from : (k : ℕ) (s : List ℕ) → length (charsFrom k s) ≤ length s

@@ -1,6 +1,7 @@
 pub mod Bytes
 pub mod Rows
 pub mod First
+pub mod Places
 pub mod AsciiBlock
 pub mod Answer
 pub mod Append

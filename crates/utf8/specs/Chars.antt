@@ -47,6 +47,16 @@ charsFrom (suc k) (b ∷ s) = charsFrom k s
 abbrev pub chars : List ℕ → List Char
 chars s = charsFrom 0 s
 
+-- the code of the next character, 0 at the end
+abbrev pub peek : List Char → ℕ
+peek [] = 0
+peek (c ∷ cs) = c .code
+
+-- how many bytes characters take
+abbrev pub widths : List Char → ℕ
+widths [] = 0
+widths (c ∷ cs) = c .width + widths cs
+
 -- is a character a stray byte? U+FFFD itself is written in three bytes
 abbrev pub isStray : Char → Bool
 isStray c = eqb (c .width) 1 && eqb (c .code) 0xFFFD

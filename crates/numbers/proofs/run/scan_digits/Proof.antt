@@ -78,8 +78,7 @@ loop-again-2 c =
     let a = l .before .before .args in
     let h = c .before .before .before .before .before .loop-test .taken in
     let d : a .base ≤ digitVal (getD (a .src .now) (l .loop .p) 0) = rw (c .before .before .before .digit-val .ensures) at (c .before .before .if1 .left) in
-    let g = rw (c .if3 .left) at (l .loop .inv .1) in
-    (
+    let g = rw (c .if3 .left) at (l .loop .inv .1) in (
       omega arith,
       g ∙ ap (grown (l .loop .p - a .at)) (run-under (a .base) (a .src .now) (l .loop .p) h d (c .before .if2 .left)) ∙ grown-more (a .at) (l .loop .p) _ (l .loop .inv .0),
     )
