@@ -1,28 +1,37 @@
--- Runs of digits with underscores between: "An underscore stands between digits or after a prefix, never doubled, never last."
-use Prim.Native.Nat.{ℕ, suc}
+-- Runs of digits: "An underscore stands between digits or after a prefix, never doubled, never last."
+use Prim.Native.Nat.{ℕ, suc, _+_}
 use mathlib.Core.Bool.{Bool, true, false, cond}
 use mathlib.Core.List.{List, [], _∷_}
 use lib.Dec.{ltb, eqb}
 use Rattle.utf8.specs.declared.Char.{Char}
-use Rattle.numbers.specs.declared.run.Digits.{Digits}
 use Rattle.digits.specs.Digit.{digitVal}
+use Rattle.numbers.specs.declared.run.Digits.{Digits}
 
--- nothing more is read; an underscore that was read last, or that would be doubled, is misplaced
-abbrev pub stop : Bool → Digits
+-- how many characters a run has, and whether an underscore is misplaced where it stopped
+pub record Run : Type 0 where
+  pub len : ℕ
+  pub misplaced : Bool
+
+-- nothing more is read
+abbrev pub stop : Bool → Run
 stop misplaced = record { len = 0; misplaced = misplaced }
 
 -- one character before
-abbrev pub more : Digits → Digits
+abbrev pub more : Run → Run
 more d = record { len = suc (d .len); misplaced = d .misplaced }
 
 -- the longest run of digits below the base and single underscores; `under`: the character before it is an underscore
-unfoldable pub run : ℕ → Bool → List Char → Digits
-run base under [] = stop under
-run base under (c ∷ r) =
-    cond (ltb (digitVal (c .code)) base) (more (run base false r))
-    (cond (eqb (c .code) 95) (cond under (stop true) (more (run base true r))) (stop under))
+unfoldable pub digitRun : ℕ → Bool → List Char → Run
+digitRun base under [] = stop under
+digitRun base under (c ∷ r) =
+    cond (ltb (digitVal (c .code)) base) (more (digitRun base false r))
+    (cond (eqb (c .code) 95) (cond under (stop true) (more (digitRun base true r))) (stop under))
 
 -- the same where no underscore may stand first
-unfoldable pub strictRun : ℕ → List Char → Digits
+unfoldable pub strictRun : ℕ → List Char → Run
 strictRun base [] = stop false
-strictRun base (c ∷ r) = cond (eqb (c .code) 95) (stop true) (run base false (c ∷ r))
+strictRun base (c ∷ r) = cond (eqb (c .code) 95) (stop true) (digitRun base false (c ∷ r))
+
+-- a run that starts at a place, as the code gives it
+abbrev pub digitsAt : ℕ → Run → Digits
+digitsAt at d = record { end = at + d .len; misplaced = d .misplaced }

@@ -1,2 +1,159 @@
-// Numbers.
+// Numbers: decimal, binary, octal and hexadecimal integers, decimal floats, and imaginary ones.
 mod run;
+
+ghost use mathlib.Core.Path.{_≡_};
+ghost use Prim.Native.Nat.{_≤_};
+ghost use lib.ListN.{drop};
+ghost use mathlib.Core.Bool.{_&&_};
+ghost use lib.Dec.{leb};
+ghost use Rattle.utf8.specs.Chars.{chars, peek};
+ghost use Rattle.digits.specs.Digit.{isDecimal};
+ghost use Rattle.numbers.specs.Number.{numberAt, exponentDigits, exponent, finish, fraction, decimalRest, decimal, prefixed};
+ghost use Rattle.numbers.specs.Run.{strictRun};
+ghost use Rattle.token.specs.Kinds.{ILLEGAL};
+
+// How the text of a number differs from what was read.
+pub enum Spelling {
+    AsRead,
+    // the prefix's letter is written lower case
+    LowerPrefix,
+    // an o is written after the 0
+    OctalPrefix,
+    // the exponent's e is written lower case
+    LowerExponent,
+}
+
+// A number: its kind, the place after it, its error or 0, and how its text is written.
+pub struct Number {
+    pub kind: u8,
+    pub end: usize,
+    pub error: u8,
+    pub spelling: Spelling,
+}
+
+fn good(kind: u8, end: usize, spelling: Spelling) -> Number
+    ensures { λ r. ⌜ r ≡ record { kind = kind; end = end; error = 0; spelling = spelling } ⌝ }
+{
+    Number {
+        kind,
+        end,
+        error: 0,
+        spelling,
+    }
+}
+
+fn illegal(error: u8, end: usize, spelling: Spelling) -> Number
+    ensures { λ r. ⌜ r ≡ record { kind = ILLEGAL; end = end; error = error; spelling = spelling } ⌝ }
+{
+    Number {
+        kind: token::ILLEGAL,
+        end,
+        error,
+        spelling,
+    }
+}
+
+// The digits of an exponent.
+fn exponent_digits(src: &[u8], at: usize, spelling: Spelling) -> Number
+    ensures { λ r. ⌜ r ≡ numberAt at (exponentDigits spelling (strictRun 10 (chars (drop at (now (src .entry)))))) ⌝ }
+{
+    let d = run::scan_strict_digits(src, at, 10);
+    let end = d.end;
+    if d.misplaced {
+        return illegal(4, end, spelling);
+    }
+    if end == at {
+        return illegal(5, end, spelling);
+    }
+    good(token::FLOAT, end, spelling)
+}
+
+// After the e: a sign, if there is one, and digits.
+fn scan_exponent(src: &[u8], at: usize, spelling: Spelling) -> Number
+    ensures { λ r. ⌜ r ≡ numberAt at (exponent spelling (chars (drop at (now (src .entry))))) ⌝ }
+{
+    let b = utf8::byte(src, at);
+    if b == 43 {
+        return exponent_digits(src, at + 1, spelling);
+    }
+    if b == 45 {
+        return exponent_digits(src, at + 1, spelling);
+    }
+    exponent_digits(src, at, spelling)
+}
+
+// After the digits: an exponent, or the number ends here.
+fn finish_number(src: &[u8], at: usize, kind: u8) -> Number
+    ensures { λ r. ⌜ r ≡ numberAt at (finish kind (chars (drop at (now (src .entry))))) ⌝ }
+{
+    let b = utf8::byte(src, at);
+    if b == 101 {
+        return scan_exponent(src, at + 1, Spelling::AsRead);
+    }
+    if b == 69 {
+        return scan_exponent(src, at + 1, Spelling::LowerExponent);
+    }
+    good(kind, at, Spelling::AsRead)
+}
+
+// After the point.
+fn scan_fraction(src: &[u8], at: usize) -> Number
+    ensures { λ r. ⌜ r ≡ numberAt at (fraction (chars (drop at (now (src .entry))))) ⌝ }
+{
+    let d = run::scan_strict_digits(src, at, 10);
+    let end = d.end;
+    if d.misplaced {
+        return illegal(4, end, Spelling::AsRead);
+    }
+    finish_number(src, end, token::FLOAT)
+}
+
+// After the digits of a decimal number.
+fn decimal_rest(src: &[u8], at: usize) -> Number
+    ensures { λ r. ⌜ r ≡ numberAt at (decimalRest (chars (drop at (now (src .entry))))) ⌝ }
+{
+    if utf8::byte(src, at) == 46 {
+        return scan_fraction(src, at + 1);
+    }
+    finish_number(src, at, token::INT)
+}
+
+fn scan_decimal(src: &[u8], at: usize) -> Number
+    ensures { λ r. ⌜ r ≡ numberAt at (decimal (chars (drop at (now (src .entry))))) ⌝ }
+{
+    let d = run::scan_digits(src, at, 10);
+    let end = d.end;
+    if d.misplaced {
+        return illegal(4, end, Spelling::AsRead);
+    }
+    decimal_rest(src, end)
+}
+
+// Does a decimal digit follow a binary or octal number?
+fn goes_on(src: &[u8], at: usize, base: u8) -> bool
+    ensures { λ r. ⌜ r ≡ leb base 8 && isDecimal (peek (chars (drop at (now (src .entry))))) ⌝ }
+{
+    if base <= 8 {
+        return digits::is_decimal(utf8::byte(src, at));
+    }
+    false
+}
+
+// After a prefix: digits of the base, whose own error the number has where there is none, or a decimal digit follows.
+fn scan_prefixed(src: &[u8], at: usize, base: u8, error: u8, spelling: Spelling) -> Number
+    requires { ⌜ base ≤ 16 ⌝ }
+    ensures { λ r. ⌜ r ≡ numberAt at (prefixed base error spelling (chars (drop at (now (src .entry))))) ⌝ }
+{
+    let d = run::scan_digits(src, at, base);
+    let end = d.end;
+    if d.misplaced {
+        return illegal(4, end, spelling);
+    }
+    if end == at {
+        return illegal(error, end, spelling);
+    }
+    if goes_on(src, end, base) {
+        return illegal(error, end, spelling);
+    }
+    good(token::INT, end, spelling)
+}

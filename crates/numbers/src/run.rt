@@ -4,18 +4,18 @@ ghost use mathlib.Core.Bool.{false};
 ghost use Prim.Native.Nat.{_≤_};
 ghost use lib.ListN.{drop};
 ghost use Rattle.utf8.specs.Chars.{chars};
-ghost use Rattle.numbers.specs.Run.{run, strictRun};
+ghost use Rattle.numbers.specs.Run.{digitsAt, digitRun, strictRun};
 
-// A run of digits and underscores: how many characters it has, and whether an underscore is misplaced where it stopped.
+// A run of digits and underscores: the place after it, and whether an underscore is misplaced where it stopped.
 pub(crate) struct Digits {
-    pub(crate) len: usize,
+    pub(crate) end: usize,
     pub(crate) misplaced: bool,
 }
 
 // The run at a place: digits below the base, and single underscores.
 pub(crate) fn scan_digits(src: &[u8], at: usize, base: u8) -> Digits
     requires { ⌜ base ≤ 16 ⌝ }
-    ensures { λ r. ⌜ r ≡ run base false (chars (drop at (now (src .entry)))) ⌝ }
+    ensures { λ r. ⌜ r ≡ digitsAt at (digitRun base false (chars (drop at (now (src .entry))))) ⌝ }
 {
     let mut p = at;
     let mut under = false;
@@ -27,13 +27,13 @@ pub(crate) fn scan_digits(src: &[u8], at: usize, base: u8) -> Digits
         } else {
             if b != 95 {
                 return Digits {
-                    len: p - at,
+                    end: p,
                     misplaced: under,
                 };
             }
             if under {
                 return Digits {
-                    len: p - at,
+                    end: p,
                     misplaced: true,
                 };
             }
@@ -42,7 +42,7 @@ pub(crate) fn scan_digits(src: &[u8], at: usize, base: u8) -> Digits
         }
     }
     Digits {
-        len: p - at,
+        end: p,
         misplaced: under,
     }
 }
@@ -50,11 +50,11 @@ pub(crate) fn scan_digits(src: &[u8], at: usize, base: u8) -> Digits
 // The same where no underscore may stand first.
 pub(crate) fn scan_strict_digits(src: &[u8], at: usize, base: u8) -> Digits
     requires { ⌜ base ≤ 16 ⌝ }
-    ensures { λ r. ⌜ r ≡ strictRun base (chars (drop at (now (src .entry)))) ⌝ }
+    ensures { λ r. ⌜ r ≡ digitsAt at (strictRun base (chars (drop at (now (src .entry))))) ⌝ }
 {
     if utf8::byte(src, at) == 95 {
         return Digits {
-            len: 0,
+            end: at,
             misplaced: true,
         };
     }

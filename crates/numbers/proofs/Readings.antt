@@ -1,0 +1,137 @@
+-- Laws of numbers at a place of a text: each rule by the byte there and the run that was read.
+use Prim.Native.Nat.{ℕ, zero, suc, _+_, _≤_, _<_}
+use mathlib.Core.Path.{_≡_, refl, sym, ap, _∙_}
+use mathlib.Core.Bool.{Bool, true, false, cond, _&&_, _||_}
+use mathlib.Core.List.{List}
+use native.Mathlib.Omega.{arith}
+use native.Mathlib.Nat.{add-zero, add-assoc}
+use lib.Dec.{leb, eqb, lit<, lit≤}
+use lib.ListN.{getD, drop}
+use borrow.Author.Tests.{eq-eqb, ne-eqb, lt-leb}
+use Rattle.basics.specs.Between.{between}
+use Rattle.basics.proofs.Choice.{above-it}
+use Rattle.utf8.specs.Chars.{chars, peek}
+use Rattle.utf8.proofs.Places.{code-next, test-next}
+use Rattle.token.specs.Kinds.{ILLEGAL, INT, FLOAT, IMAG}
+use Rattle.digits.specs.Digit.{isDecimal}
+use Rattle.numbers.specs.declared.Number.{Number}
+use Rattle.numbers.specs.declared.Spelling.{Spelling}
+use Rattle.numbers.specs.declared.Spelling.the-variants.{AsRead, LowerPrefix, OctalPrefix, LowerExponent}
+use Rattle.numbers.specs.Run.{Run, digitRun, strictRun}
+use Rattle.numbers.specs.Number.{Reading, after, exponentDigits, exponent, finish, fraction, decimalRest, decimal, prefixedDigits, prefixed, numberAt}
+use Rattle.numbers.proofs.Runs.{run-place, strict-place, next-place}
+
+-- n characters on
+at-after : (at n : ℕ) (x : Reading) → numberAt at (after n x) ≡ numberAt (at + n) x
+at-after at n x = rw (← add-assoc at n (x .len))
+
+-- ---- the digits of an exponent
+module _ (at : ℕ) (s : Spelling) (d : Run) where
+  pub exponent-bad : d .misplaced ≡ true → numberAt at (exponentDigits s d) ≡ record { kind = ILLEGAL; end = at + d .len; error = 4; spelling = s }
+  exponent-bad e = rw e
+
+  module _ (good : d .misplaced ≡ false) where
+    pub exponent-none : d .len ≡ 0 → numberAt at (exponentDigits s d) ≡ record { kind = ILLEGAL; end = at + d .len; error = 5; spelling = s }
+    exponent-none e = rw (good, e)
+
+    pub exponent-good : (d .len ≡ 0 → ⊥) → numberAt at (exponentDigits s d) ≡ record { kind = FLOAT; end = at + d .len; error = 0; spelling = s }
+    exponent-good e = rw (good, ne-eqb _ _ e)
+
+-- ---- after a prefix
+module _ (base error : ℕ) (s : Spelling) (at : ℕ) (d : Run) (next : ℕ) where
+  pub prefixed-bad : d .misplaced ≡ true → numberAt at (prefixedDigits base error s d next) ≡ record { kind = ILLEGAL; end = at + d .len; error = 4; spelling = s }
+  prefixed-bad e = rw e
+
+  module _ (good : d .misplaced ≡ false) where
+    pub prefixed-none : d .len ≡ 0 → numberAt at (prefixedDigits base error s d next) ≡ record { kind = ILLEGAL; end = at + d .len; error = error; spelling = s }
+    prefixed-none e = rw (good, e)
+
+    module _ (some : d .len ≡ 0 → ⊥) where
+      pub prefixed-on : leb base 8 && isDecimal next ≡ true → numberAt at (prefixedDigits base error s d next) ≡ record { kind = ILLEGAL; end = at + d .len; error = error; spelling = s }
+      prefixed-on e = rw (good, ne-eqb _ _ some, e)
+
+      pub prefixed-good : leb base 8 && isDecimal next ≡ false → numberAt at (prefixedDigits base error s d next) ≡ record { kind = INT; end = at + d .len; error = 0; spelling = s }
+      prefixed-good e = rw (good, ne-eqb _ _ some, e)
+
+module _ (s : List ℕ) (at : ℕ) where
+  -- the tests on the next character, by the byte
+  next-is : (x : ℕ) → x < 0x80 → getD s at 0 ≡ x → eqb (peek (chars (drop at s))) x ≡ true
+  next-is x l e = code-next s at x l ∙ eq-eqb _ _ e
+
+  next-not : (x : ℕ) → x < 0x80 → (getD s at 0 ≡ x → ⊥) → eqb (peek (chars (drop at s))) x ≡ false
+  next-not x l e = code-next s at x l ∙ ne-eqb _ _ e
+
+  pub next-decimal : isDecimal (peek (chars (drop at s))) ≡ isDecimal (getD s at 0)
+  next-decimal = test-next s at isDecimal (λ c h. above-it 48 c 57 (omega arith) (omega arith))
+
+  -- ---- an exponent
+  module _ (sp : Spelling) where
+    signed : (x : ℕ) → getD s at 0 ≡ x → 0 < x → x < 0x80 → eqb (peek (chars (drop at s))) 43 || eqb (peek (chars (drop at s))) 45 ≡ true
+        → numberAt at (exponent sp (chars (drop at s))) ≡ numberAt (at + 1) (exponentDigits sp (strictRun 10 (chars (drop (at + 1) s))))
+    unfolding exponent
+    signed x e l h t = rw (t, next-place s at x e l h) (at-after at 1 _)
+
+    pub exponent-plus : getD s at 0 ≡ 43 → numberAt at (exponent sp (chars (drop at s))) ≡ numberAt (at + 1) (exponentDigits sp (strictRun 10 (chars (drop (at + 1) s))))
+    exponent-plus e = signed 43 e (lit< tt) (lit< tt) (rw (next-is 43 (lit< tt) e))
+
+    pub exponent-minus : getD s at 0 ≡ 45 → numberAt at (exponent sp (chars (drop at s))) ≡ numberAt (at + 1) (exponentDigits sp (strictRun 10 (chars (drop (at + 1) s))))
+    exponent-minus e = signed 45 e (lit< tt) (lit< tt) (rw (next-not 43 (lit< tt) (λ z. omega arith), next-is 45 (lit< tt) e))
+
+    pub exponent-plain : (getD s at 0 ≡ 43 → ⊥) → (getD s at 0 ≡ 45 → ⊥)
+        → numberAt at (exponent sp (chars (drop at s))) ≡ numberAt at (exponentDigits sp (strictRun 10 (chars (drop at s))))
+    unfolding exponent
+    exponent-plain e f = rw (next-not 43 (lit< tt) e, next-not 45 (lit< tt) f)
+
+  -- ---- after the digits
+  module _ (kind : ℕ) where
+    pub finish-lower : getD s at 0 ≡ 101 → numberAt at (finish kind (chars (drop at s))) ≡ numberAt (at + 1) (exponent AsRead (chars (drop (at + 1) s)))
+    unfolding finish
+    finish-lower e = rw (next-is 101 (lit< tt) e, next-place s at 101 e (lit< tt) (lit< tt)) (at-after at 1 _)
+
+    pub finish-upper : getD s at 0 ≡ 69 → numberAt at (finish kind (chars (drop at s))) ≡ numberAt (at + 1) (exponent LowerExponent (chars (drop (at + 1) s)))
+    unfolding finish
+    finish-upper e =
+        rw (next-not 101 (lit< tt) (λ z. omega arith), next-is 69 (lit< tt) e, next-place s at 69 e (lit< tt) (lit< tt)) (at-after at 1 _)
+
+    pub finish-end : (getD s at 0 ≡ 101 → ⊥) → (getD s at 0 ≡ 69 → ⊥) → numberAt at (finish kind (chars (drop at s))) ≡ record { kind = kind; end = at; error = 0; spelling = AsRead }
+    unfolding finish
+    finish-end e f = rw (next-not 101 (lit< tt) e, next-not 69 (lit< tt) f, add-zero at)
+
+  -- ---- a fraction
+  pub fraction-bad : strictRun 10 (chars (drop at s)) .misplaced ≡ true
+      → numberAt at (fraction (chars (drop at s))) ≡ record { kind = ILLEGAL; end = at + strictRun 10 (chars (drop at s)) .len; error = 4; spelling = AsRead }
+  unfolding fraction
+  fraction-bad e = rw e
+
+  pub fraction-good : strictRun 10 (chars (drop at s)) .misplaced ≡ false
+      → numberAt at (fraction (chars (drop at s)))
+      ≡ numberAt (at + strictRun 10 (chars (drop at s)) .len) (finish FLOAT (chars (drop (at + strictRun 10 (chars (drop at s)) .len) s)))
+  unfolding fraction
+  fraction-good e = rw (e, strict-place 10 (lit≤ tt) s at) (at-after at _ _)
+
+  -- ---- a decimal number
+  pub rest-point : getD s at 0 ≡ 46 → numberAt at (decimalRest (chars (drop at s))) ≡ numberAt (at + 1) (fraction (chars (drop (at + 1) s)))
+  unfolding decimalRest
+  rest-point e = rw (next-is 46 (lit< tt) e, next-place s at 46 e (lit< tt) (lit< tt)) (at-after at 1 _)
+
+  pub rest-plain : (getD s at 0 ≡ 46 → ⊥) → numberAt at (decimalRest (chars (drop at s))) ≡ numberAt at (finish INT (chars (drop at s)))
+  unfolding decimalRest
+  rest-plain e = rw (next-not 46 (lit< tt) e)
+
+  pub decimal-bad : digitRun 10 false (chars (drop at s)) .misplaced ≡ true
+      → numberAt at (decimal (chars (drop at s))) ≡ record { kind = ILLEGAL; end = at + digitRun 10 false (chars (drop at s)) .len; error = 4; spelling = AsRead }
+  unfolding decimal
+  decimal-bad e = rw e
+
+  pub decimal-good : digitRun 10 false (chars (drop at s)) .misplaced ≡ false
+      → numberAt at (decimal (chars (drop at s)))
+      ≡ numberAt (at + digitRun 10 false (chars (drop at s)) .len) (decimalRest (chars (drop (at + digitRun 10 false (chars (drop at s)) .len) s)))
+  unfolding decimal
+  decimal-good e = rw (e, run-place 10 (lit≤ tt) s at) (at-after at _ _)
+
+  -- ---- what follows a prefixed number stands at the place after it
+  pub prefixed-there : (base error : ℕ) (sp : Spelling) → base ≤ 16
+      → prefixed base error sp (chars (drop at s))
+      ≡ prefixedDigits base error sp (digitRun base false (chars (drop at s))) (peek (chars (drop (at + digitRun base false (chars (drop at s)) .len) s)))
+  unfolding prefixed
+  prefixed-there base error sp b = rw (run-place base b s at)

@@ -1,0 +1,103 @@
+-- Numbers, from the characters that are left: how many are read, kind, error, and how the text differs from what was read.
+use Prim.Native.Nat.{ℕ, _+_}
+use mathlib.Core.Bool.{Bool, true, false, cond, _&&_, _||_}
+use mathlib.Core.List.{List}
+use lib.Dec.{leb, eqb}
+use lib.ListN.{drop}
+use Rattle.utf8.specs.declared.Char.{Char}
+use Rattle.utf8.specs.Chars.{peek}
+use Rattle.token.specs.Kinds.{ILLEGAL, INT, FLOAT, IMAG}
+use Rattle.digits.specs.Digit.{isDecimal}
+use Rattle.numbers.specs.declared.Number.{Number}
+use Rattle.numbers.specs.declared.Spelling.{Spelling}
+use Rattle.numbers.specs.declared.Spelling.the-variants.{AsRead, LowerPrefix, OctalPrefix, LowerExponent}
+use Rattle.numbers.specs.Run.{Run, digitRun, strictRun}
+
+pub record Reading : Type 0 where
+  pub kind : ℕ
+  pub len : ℕ
+  pub error : ℕ
+  pub spelling : Spelling
+
+-- a number of the kind, with nothing more read
+abbrev pub good : ℕ → ℕ → Spelling → Reading
+good kind len s = record { kind = kind; len = len; error = 0; spelling = s }
+
+-- an error ends the number
+abbrev pub illegal : ℕ → ℕ → Spelling → Reading
+illegal error len s = record { kind = ILLEGAL; len = len; error = error; spelling = s }
+
+-- n characters before
+abbrev pub after : ℕ → Reading → Reading
+after n x = record { kind = x .kind; len = n + x .len; error = x .error; spelling = x .spelling }
+
+-- the digits of an exponent: error 4 for a misplaced underscore, 5 where there is no digit
+abbrev pub exponentDigits : Spelling → Run → Reading
+exponentDigits s d = cond (d .misplaced) (illegal 4 (d .len) s) (cond (eqb (d .len) 0) (illegal 5 0 s) (good FLOAT (d .len) s))
+
+-- after the e: a sign, if there is one, and digits
+unfoldable pub exponent : Spelling → List Char → Reading
+exponent s r =
+    cond (eqb (peek r) 43 || eqb (peek r) 45) (after 1 (exponentDigits s (strictRun 10 (drop 1 r))))
+    (exponentDigits s (strictRun 10 r))
+
+-- after the digits: an exponent, whose e is written lower case, or the number ends here
+unfoldable pub finish : ℕ → List Char → Reading
+finish kind r =
+    cond (eqb (peek r) 101) (after 1 (exponent AsRead (drop 1 r)))
+    (cond (eqb (peek r) 69) (after 1 (exponent LowerExponent (drop 1 r))) (good kind 0 AsRead))
+
+-- after the point
+unfoldable pub fraction : List Char → Reading
+fraction r =
+    cond (strictRun 10 r .misplaced) (illegal 4 (strictRun 10 r .len) AsRead)
+    (after (strictRun 10 r .len) (finish FLOAT (drop (strictRun 10 r .len) r)))
+
+-- after the digits of a decimal number: a point and a fraction, an exponent, or nothing
+unfoldable pub decimalRest : List Char → Reading
+decimalRest r = cond (eqb (peek r) 46) (after 1 (fraction (drop 1 r))) (finish INT r)
+
+-- a decimal number
+unfoldable pub decimal : List Char → Reading
+decimal r =
+    cond (digitRun 10 false r .misplaced) (illegal 4 (digitRun 10 false r .len) AsRead)
+    (after (digitRun 10 false r .len) (decimalRest (drop (digitRun 10 false r .len) r)))
+
+-- the digits of a prefixed number, and what stands next: a binary or octal number ends before no decimal digit
+abbrev pub prefixedDigits : ℕ → ℕ → Spelling → Run → ℕ → Reading
+prefixedDigits base error s d next =
+    cond (d .misplaced) (illegal 4 (d .len) s)
+    (cond (eqb (d .len) 0) (illegal error 0 s)
+    (cond (leb base 8 && isDecimal next) (illegal error (d .len) s) (good INT (d .len) s)))
+
+-- after a prefix
+unfoldable pub prefixed : ℕ → ℕ → Spelling → List Char → Reading
+prefixed base error s r = prefixedDigits base error s (digitRun base false r) (peek (drop (digitRun base false r .len) r))
+
+-- a number that starts with 0, by the character after it
+unfoldable pub leadingZero : List Char → Reading
+leadingZero r =
+    cond (eqb (peek (drop 1 r)) 120) (after 2 (prefixed 16 3 AsRead (drop 2 r)))
+    (cond (eqb (peek (drop 1 r)) 88) (after 2 (prefixed 16 3 LowerPrefix (drop 2 r)))
+    (cond (eqb (peek (drop 1 r)) 111) (after 2 (prefixed 8 2 AsRead (drop 2 r)))
+    (cond (eqb (peek (drop 1 r)) 79) (after 2 (prefixed 8 2 LowerPrefix (drop 2 r)))
+    (cond (eqb (peek (drop 1 r)) 98) (after 2 (prefixed 2 1 AsRead (drop 2 r)))
+    (cond (eqb (peek (drop 1 r)) 66) (after 2 (prefixed 2 1 LowerPrefix (drop 2 r)))
+    (cond (isDecimal (peek (drop 1 r))) (after 1 (prefixed 8 2 OctalPrefix (drop 1 r))) (decimal r)))))))
+
+-- a number but for an i that may follow
+unfoldable pub withoutI : List Char → Reading
+withoutI r = cond (eqb (peek r) 46) (after 1 (fraction (drop 1 r))) (cond (eqb (peek r) 48) (leadingZero r) (decimal r))
+
+-- "A following i makes INT or FLOAT an IMAG."
+abbrev pub imaginary : Reading → ℕ → Reading
+imaginary x next =
+    cond (eqb (x .kind) ILLEGAL) x
+    (cond (eqb next 105) (record { kind = IMAG; len = x .len + 1; error = 0; spelling = x .spelling }) x)
+
+unfoldable pub number : List Char → Reading
+number r = imaginary (withoutI r) (peek (drop (withoutI r .len) r))
+
+-- a number that starts at a place, as the code gives it
+abbrev pub numberAt : ℕ → Reading → Number
+numberAt at x = record { kind = x .kind; end = at + x .len; error = x .error; spelling = x .spelling }

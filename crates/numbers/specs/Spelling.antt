@@ -1,0 +1,29 @@
+-- The text of a number: "Prefixes are written lower case in the text, and so is the exponent's e. A 0 followed by a digit is octal, and its text gains an o".
+use Prim.Native.Nat.{ℕ, _+_}
+use mathlib.Core.Bool.{cond}
+use mathlib.Core.List.{List, [], _∷_, map}
+use lib.Dec.{eqb}
+use Rattle.numbers.specs.declared.Spelling.{Spelling}
+use Rattle.numbers.specs.declared.Spelling.the-variants.{AsRead, LowerPrefix, OctalPrefix, LowerExponent}
+
+-- the second byte in lower case
+abbrev pub lowerSecond : List ℕ → List ℕ
+lowerSecond [] = []
+lowerSecond (a ∷ []) = a ∷ []
+lowerSecond (a ∷ b ∷ bs) = a ∷ (b + 32) ∷ bs
+
+-- an o after the first byte
+abbrev pub gainO : List ℕ → List ℕ
+gainO [] = []
+gainO (a ∷ bs) = a ∷ 111 ∷ bs
+
+-- each E as e
+abbrev pub lowerE : List ℕ → List ℕ
+lowerE bs = map (λ b. cond (eqb b 69) 101 b) bs
+
+-- the text, from the bytes read
+unfoldable pub numberText : Spelling → List ℕ → List ℕ
+numberText AsRead bs = bs
+numberText LowerPrefix bs = lowerSecond bs
+numberText OctalPrefix bs = gainO bs
+numberText LowerExponent bs = lowerE bs
