@@ -7,6 +7,7 @@ use native.Mathlib.Omega.{arith}
 use native.Mathlib.Nat.{add-zero, add-assoc}
 use lib.Dec.{leb, eqb, lit<, lit≤}
 use lib.ListN.{getD, drop}
+use lib.Seq.{drop-drop}
 use borrow.Author.Tests.{eq-eqb, ne-eqb, lt-leb}
 use Rattle.basics.specs.Between.{between}
 use Rattle.basics.proofs.Choice.{above-it}
@@ -18,12 +19,15 @@ use Rattle.numbers.specs.declared.Number.{Number}
 use Rattle.numbers.specs.declared.Spelling.{Spelling}
 use Rattle.numbers.specs.declared.Spelling.the-variants.{AsRead, LowerPrefix, OctalPrefix, LowerExponent}
 use Rattle.numbers.specs.Run.{Run, digitRun, strictRun}
-use Rattle.numbers.specs.Number.{Reading, after, exponentDigits, exponent, finish, fraction, decimalRest, decimal, prefixedDigits, prefixed, numberAt}
+use Rattle.numbers.specs.Number.{Reading, after, exponentDigits, exponent, finish, fraction, decimalRest, decimal, prefixedDigits, prefixed, bareZero, zeroBy, leadingZero, withoutI, numberAt}
 use Rattle.numbers.proofs.Runs.{run-place, strict-place, next-place}
 
 -- n characters on
 at-after : (at n : ℕ) (x : Reading) → numberAt at (after n x) ≡ numberAt (at + n) x
 at-after at n x = rw (← add-assoc at n (x .len))
+
+pub digit-next : (s : List ℕ) (p : ℕ) → isDecimal (peek (chars (drop p s))) ≡ isDecimal (getD s p 0)
+digit-next s p = test-next s p isDecimal (λ c h. above-it 48 c 57 (omega arith) (omega arith))
 
 -- ---- the digits of an exponent
 module _ (at : ℕ) (s : Spelling) (d : Run) where
@@ -60,9 +64,6 @@ module _ (s : List ℕ) (at : ℕ) where
 
   next-not : (x : ℕ) → x < 0x80 → (getD s at 0 ≡ x → ⊥) → eqb (peek (chars (drop at s))) x ≡ false
   next-not x l e = code-next s at x l ∙ ne-eqb _ _ e
-
-  pub next-decimal : isDecimal (peek (chars (drop at s))) ≡ isDecimal (getD s at 0)
-  next-decimal = test-next s at isDecimal (λ c h. above-it 48 c 57 (omega arith) (omega arith))
 
   -- ---- an exponent
   module _ (sp : Spelling) where
@@ -135,3 +136,51 @@ module _ (s : List ℕ) (at : ℕ) where
       ≡ prefixedDigits base error sp (digitRun base false (chars (drop at s))) (peek (chars (drop (at + digitRun base false (chars (drop at s)) .len) s)))
   unfolding prefixed
   prefixed-there base error sp b = rw (run-place base b s at)
+
+  -- ---- a number that starts with 0
+  module _ (zero : getD s at 0 ≡ 48) where
+    first-place : drop 1 (chars (drop at s)) ≡ chars (drop (at + 1) s)
+    first-place = next-place s at 48 zero (lit< tt) (lit< tt)
+
+    pub bare-octal : isDecimal (getD s (at + 1) 0) ≡ true → numberAt at (bareZero (chars (drop at s))) ≡ numberAt (at + 1) (prefixed 8 2 OctalPrefix (chars (drop (at + 1) s)))
+    unfolding bareZero
+    bare-octal e = rw (first-place, digit-next s (at + 1), e) (at-after at 1 _)
+
+    pub bare-decimal : isDecimal (getD s (at + 1) 0) ≡ false → numberAt at (bareZero (chars (drop at s))) ≡ numberAt at (decimal (chars (drop at s)))
+    unfolding bareZero
+    bare-decimal e = rw (first-place, digit-next s (at + 1), e)
+
+    -- the byte after it decides
+    pub zero-is : leadingZero (chars (drop at s)) ≡ zeroBy (getD s (at + 1) 0) (chars (drop at s))
+    unfolding leadingZero
+    zero-is =
+        rw (
+          first-place,
+          code-next s (at + 1) 120 (lit< tt),
+          code-next s (at + 1) 88 (lit< tt),
+          code-next s (at + 1) 111 (lit< tt),
+          code-next s (at + 1) 79 (lit< tt),
+          code-next s (at + 1) 98 (lit< tt),
+          code-next s (at + 1) 66 (lit< tt),
+        )
+
+    -- two characters on
+    pub zero-prefix : (x : ℕ) → getD s (at + 1) 0 ≡ x → 0 < x → x < 0x80 → (base error : ℕ) (sp : Spelling)
+        → numberAt at (after 2 (prefixed base error sp (drop 2 (chars (drop at s))))) ≡ numberAt (at + 2) (prefixed base error sp (chars (drop (at + 2) s)))
+    zero-prefix x e l h base error sp =
+        let p : drop 2 (chars (drop at s)) ≡ chars (drop (at + 2) s) =
+            sym (drop-drop 1 1 (chars (drop at s))) ∙ ap (drop 1) first-place ∙ next-place s (at + 1) x e l h ∙ rw (add-assoc at 1 1) in
+        rw p (at-after at 2 _)
+
+  -- ---- a number but for an i
+  pub without-point : getD s at 0 ≡ 46 → numberAt at (withoutI (chars (drop at s))) ≡ numberAt (at + 1) (fraction (chars (drop (at + 1) s)))
+  unfolding withoutI
+  without-point e = rw (next-is 46 (lit< tt) e, next-place s at 46 e (lit< tt) (lit< tt)) (at-after at 1 _)
+
+  pub without-zero : getD s at 0 ≡ 48 → numberAt at (withoutI (chars (drop at s))) ≡ numberAt at (leadingZero (chars (drop at s)))
+  unfolding withoutI
+  without-zero e = rw (next-not 46 (lit< tt) (λ z. omega arith), next-is 48 (lit< tt) e)
+
+  pub without-other : (getD s at 0 ≡ 46 → ⊥) → (getD s at 0 ≡ 48 → ⊥) → numberAt at (withoutI (chars (drop at s))) ≡ numberAt at (decimal (chars (drop at s)))
+  unfolding withoutI
+  without-other e f = rw (next-not 46 (lit< tt) e, next-not 48 (lit< tt) f)

@@ -74,16 +74,22 @@ prefixedDigits base error s d next =
 unfoldable pub prefixed : ℕ → ℕ → Spelling → List Char → Reading
 prefixed base error s r = prefixedDigits base error s (digitRun base false r) (peek (drop (digitRun base false r .len) r))
 
--- a number that starts with 0, by the character after it
+-- a 0 without a prefix: "A 0 followed by a digit is octal"; any other starts a decimal
+unfoldable pub bareZero : List Char → Reading
+bareZero r = cond (isDecimal (peek (drop 1 r))) (after 1 (prefixed 8 2 OctalPrefix (drop 1 r))) (decimal r)
+
+-- a number that starts with 0, by the character b after it
+abbrev pub zeroBy : ℕ → List Char → Reading
+zeroBy b r =
+    cond (eqb b 120) (after 2 (prefixed 16 3 AsRead (drop 2 r)))
+    (cond (eqb b 88) (after 2 (prefixed 16 3 LowerPrefix (drop 2 r)))
+    (cond (eqb b 111) (after 2 (prefixed 8 2 AsRead (drop 2 r)))
+    (cond (eqb b 79) (after 2 (prefixed 8 2 LowerPrefix (drop 2 r)))
+    (cond (eqb b 98) (after 2 (prefixed 2 1 AsRead (drop 2 r)))
+    (cond (eqb b 66) (after 2 (prefixed 2 1 LowerPrefix (drop 2 r))) (bareZero r))))))
+
 unfoldable pub leadingZero : List Char → Reading
-leadingZero r =
-    cond (eqb (peek (drop 1 r)) 120) (after 2 (prefixed 16 3 AsRead (drop 2 r)))
-    (cond (eqb (peek (drop 1 r)) 88) (after 2 (prefixed 16 3 LowerPrefix (drop 2 r)))
-    (cond (eqb (peek (drop 1 r)) 111) (after 2 (prefixed 8 2 AsRead (drop 2 r)))
-    (cond (eqb (peek (drop 1 r)) 79) (after 2 (prefixed 8 2 LowerPrefix (drop 2 r)))
-    (cond (eqb (peek (drop 1 r)) 98) (after 2 (prefixed 2 1 AsRead (drop 2 r)))
-    (cond (eqb (peek (drop 1 r)) 66) (after 2 (prefixed 2 1 LowerPrefix (drop 2 r)))
-    (cond (isDecimal (peek (drop 1 r))) (after 1 (prefixed 8 2 OctalPrefix (drop 1 r))) (decimal r)))))))
+leadingZero r = zeroBy (peek (drop 1 r)) r
 
 -- a number but for an i that may follow
 unfoldable pub withoutI : List Char → Reading

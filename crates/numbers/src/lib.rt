@@ -3,12 +3,12 @@ mod run;
 
 ghost use mathlib.Core.Path.{_≡_};
 ghost use Prim.Native.Nat.{_≤_};
-ghost use lib.ListN.{drop};
+ghost use lib.ListN.{drop, getD};
 ghost use mathlib.Core.Bool.{_&&_};
 ghost use lib.Dec.{leb};
 ghost use Rattle.utf8.specs.Chars.{chars, peek};
 ghost use Rattle.digits.specs.Digit.{isDecimal};
-ghost use Rattle.numbers.specs.Number.{numberAt, exponentDigits, exponent, finish, fraction, decimalRest, decimal, prefixed};
+ghost use Rattle.numbers.specs.Number.{numberAt, exponentDigits, exponent, finish, fraction, decimalRest, decimal, prefixed, bareZero, leadingZero, withoutI, number};
 ghost use Rattle.numbers.specs.Run.{strictRun};
 ghost use Rattle.token.specs.Kinds.{ILLEGAL};
 
@@ -156,4 +156,60 @@ fn scan_prefixed(src: &[u8], at: usize, base: u8, error: u8, spelling: Spelling)
         return illegal(error, end, spelling);
     }
     good(token::INT, end, spelling)
+}
+
+// A 0 without a prefix: octal before a digit, else decimal.
+fn scan_bare_zero(src: &[u8], at: usize) -> Number
+    requires { ⌜ getD (now src) at 0 ≡ 48 ⌝ }
+    ensures { λ r. ⌜ r ≡ numberAt at (bareZero (chars (drop at (now (src .entry))))) ⌝ }
+{
+    if digits::is_decimal(utf8::byte(src, at + 1)) {
+        return scan_prefixed(src, at + 1, 8, 2, Spelling::OctalPrefix);
+    }
+    scan_decimal(src, at)
+}
+
+// A number that starts with 0, by the byte after it.
+fn scan_zero(src: &[u8], at: usize) -> Number
+    requires { ⌜ getD (now src) at 0 ≡ 48 ⌝ }
+    ensures { λ r. ⌜ r ≡ numberAt at (leadingZero (chars (drop at (now (src .entry))))) ⌝ }
+{
+    let b = utf8::byte(src, at + 1);
+    match b {
+        120 => scan_prefixed(src, at + 2, 16, 3, Spelling::AsRead),
+        88 => scan_prefixed(src, at + 2, 16, 3, Spelling::LowerPrefix),
+        111 => scan_prefixed(src, at + 2, 8, 2, Spelling::AsRead),
+        79 => scan_prefixed(src, at + 2, 8, 2, Spelling::LowerPrefix),
+        98 => scan_prefixed(src, at + 2, 2, 1, Spelling::AsRead),
+        66 => scan_prefixed(src, at + 2, 2, 1, Spelling::LowerPrefix),
+        _ => scan_bare_zero(src, at),
+    }
+}
+
+fn scan_number_without_i(src: &[u8], at: usize) -> Number
+    ensures { λ r. ⌜ r ≡ numberAt at (withoutI (chars (drop at (now (src .entry))))) ⌝ }
+{
+    let b = utf8::byte(src, at);
+    if b == 46 {
+        return scan_fraction(src, at + 1);
+    }
+    if b == 48 {
+        return scan_zero(src, at);
+    }
+    scan_decimal(src, at)
+}
+
+// The number at a place that holds a digit, or a point before one.
+pub fn scan_number(src: &[u8], at: usize) -> Number
+    ensures { λ r. ⌜ r ≡ numberAt at (number (chars (drop at (now (src .entry))))) ⌝ }
+{
+    let n = scan_number_without_i(src, at);
+    let end = n.end;
+    if n.kind == token::ILLEGAL {
+        return n;
+    }
+    if utf8::byte(src, end) == 105 {
+        return good(token::IMAG, end + 1, n.spelling);
+    }
+    n
 }
