@@ -8,17 +8,17 @@ use native.Mathlib.Nat.{add-zero, add-assoc}
 use lib.Dec.{leb, eqb, lit<, lit≤}
 use lib.ListN.{getD, drop}
 use lib.Seq.{drop-drop}
-use borrow.Author.Tests.{eqb-true}
+use borrow.Author.Tests.{eqb-true, eq-eqb, ne-eqb}
 use Rattle.basics.proofs.Choice.{cond-ind, either, between-true}
 use Rattle.utf8.specs.declared.Char.{Char}
 use Rattle.utf8.specs.Chars.{chars, peek}
 use Rattle.utf8.proofs.Places.{code-next}
-use Rattle.token.specs.Kinds.{INT, FLOAT}
+use Rattle.token.specs.Kinds.{ILLEGAL, INT, FLOAT, IMAG}
 use Rattle.digits.specs.Digit.{isDecimal}
 use Rattle.numbers.specs.declared.Spelling.{Spelling}
 use Rattle.numbers.specs.declared.Spelling.the-variants.{AsRead, LowerPrefix, OctalPrefix, LowerExponent}
 use Rattle.numbers.specs.Run.{Run, digitRun, strictRun}
-use Rattle.numbers.specs.Number.{Reading, after, exponentDigits, exponent, finish, fraction, decimalRest, decimal, prefixedDigits, prefixed, bareZero, zeroBy, leadingZero, withoutI, number, imaginary}
+use Rattle.numbers.specs.Number.{Reading, after, exponentDigits, exponent, finish, fraction, decimalRest, decimal, prefixedDigits, prefixed, bareZero, zeroBy, leadingZero, withoutI, number, numberAt}
 use Rattle.numbers.proofs.Runs.{run-place, strict-place, next-place}
 use Rattle.numbers.proofs.Readings.{digit-next}
 
@@ -128,3 +128,25 @@ module _ (s : List ℕ) where
   without-placed at =
       cond-ind (Placed s at) (eqb (peek (chars (drop at s))) 46) _ _ (after-code at 46 fraction (lit< tt) (lit< tt) fraction-placed)
       (λ _. cond-ind (Placed s at) (eqb (peek (chars (drop at s))) 48) _ _ (λ e. zero-placed at (on-code at 48 (lit< tt) (lit< tt) e)) (λ _. decimal-placed at))
+
+  -- ---- an i that follows
+  module _ (at : ℕ) where
+    i-there : peek (drop (withoutI (chars (drop at s)) .len) (chars (drop at s))) ≡ peek (chars (drop (at + withoutI (chars (drop at s)) .len) s))
+    i-there = ap peek (without-placed at)
+
+    pub number-illegal : withoutI (chars (drop at s)) .kind ≡ ILLEGAL → numberAt at (number (chars (drop at s))) ≡ numberAt at (withoutI (chars (drop at s)))
+    unfolding number
+    number-illegal e = rw (eq-eqb _ _ e)
+
+    module _ (good : withoutI (chars (drop at s)) .kind ≡ ILLEGAL → ⊥) where
+      pub number-imaginary : getD s (at + withoutI (chars (drop at s)) .len) 0 ≡ 105
+          → numberAt at (number (chars (drop at s)))
+          ≡ record { kind = IMAG; end = at + withoutI (chars (drop at s)) .len + 1; error = 0; spelling = withoutI (chars (drop at s)) .spelling }
+      unfolding number
+      number-imaginary e =
+          rw (ne-eqb _ _ good, i-there, code-next s (at + withoutI (chars (drop at s)) .len) 105 (lit< tt), eq-eqb _ _ e, add-assoc)
+
+      pub number-other : (getD s (at + withoutI (chars (drop at s)) .len) 0 ≡ 105 → ⊥)
+          → numberAt at (number (chars (drop at s))) ≡ numberAt at (withoutI (chars (drop at s)))
+      unfolding number
+      number-other e = rw (ne-eqb _ _ good, i-there, code-next s (at + withoutI (chars (drop at s)) .len) 105 (lit< tt), ne-eqb _ _ e)

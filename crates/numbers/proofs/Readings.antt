@@ -169,7 +169,7 @@ module _ (s : List ℕ) (at : ℕ) where
         → numberAt at (after 2 (prefixed base error sp (drop 2 (chars (drop at s))))) ≡ numberAt (at + 2) (prefixed base error sp (chars (drop (at + 2) s)))
     zero-prefix x e l h base error sp =
         let p : drop 2 (chars (drop at s)) ≡ chars (drop (at + 2) s) =
-            sym (drop-drop 1 1 (chars (drop at s))) ∙ ap (drop 1) first-place ∙ next-place s (at + 1) x e l h ∙ rw (add-assoc at 1 1) in
+        sym (drop-drop 1 1 (chars (drop at s))) ∙ ap (drop 1) first-place ∙ next-place s (at + 1) x e l h ∙ rw (add-assoc at 1 1) in
         rw p (at-after at 2 _)
 
   -- ---- a number but for an i

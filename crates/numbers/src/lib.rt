@@ -205,11 +205,12 @@ pub fn scan_number(src: &[u8], at: usize) -> Number
 {
     let n = scan_number_without_i(src, at);
     let end = n.end;
+    let spelling = n.spelling;
     if n.kind == token::ILLEGAL {
         return n;
     }
     if utf8::byte(src, end) == 105 {
-        return good(token::IMAG, end + 1, n.spelling);
+        return good(token::IMAG, end + 1, spelling);
     }
     n
 }
