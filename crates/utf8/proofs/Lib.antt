@@ -4,6 +4,7 @@ pub mod First
 pub mod Places
 pub mod AsciiBlock
 pub mod Answer
+pub mod Ends
 pub mod Append
 pub mod Encoding
 pub mod Written
