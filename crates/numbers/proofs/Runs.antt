@@ -72,7 +72,7 @@ module _ (base : ℕ) (s : List ℕ) (p : ℕ) where
       ]
 
 -- ---- the characters of a run are ASCII
-run-bound : (base : ℕ) (u : Bool) (r : List Char) → digitRun base u r .len ≤ length r
+pub run-bound : (base : ℕ) (u : Bool) (r : List Char) → digitRun base u r .len ≤ length r
 unfolding digitRun
 run-bound base u [] = omega arith
 run-bound base u (c ∷ r) =
@@ -105,7 +105,7 @@ run-low base b u (c ∷ r) =
     digit-ascii : digitVal (c .code) < base → c .code < 0x80
     digit-ascii l = elim (decLt (c .code) 0x80) [ yes k ↦ k | no k ↦ absurd (omega (arith, digit-high (c .code) (omega arith))) ]
 
-strict-is : (P : Run → Type 0) (base : ℕ) (r : List Char) → P (stop true) → P (digitRun base false r) → P (strictRun base r)
+pub strict-is : (P : Run → Type 0) (base : ℕ) (r : List Char) → P (stop true) → P (digitRun base false r) → P (strictRun base r)
 unfolding strictRun digitRun
 strict-is P base [] f g = g
 strict-is P base (c ∷ r) f g = cond-ind P (eqb (c .code) 95) _ _ (λ _. f) (λ _. g)
