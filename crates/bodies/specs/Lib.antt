@@ -1,0 +1,4 @@
+pub mod Span
+pub mod Body
+pub mod Counted
+pub mod Line
