@@ -1,3 +1,6 @@
 pub mod Chars
 pub mod Lines
 pub mod Bodies
+pub mod Ends
+pub mod Spans
+pub mod LineEnds

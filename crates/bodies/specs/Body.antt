@@ -66,7 +66,11 @@ grown b c closes =
       strays = b .strays + one (isStray c);
     }
 
--- the text that characters have in a comment or a raw string: CRs are dropped, a stray byte is written as U+FFFD
+-- the bytes that a character has in the text of a comment or a raw string: a CR is dropped, a stray byte is written as U+FFFD
+abbrev pub written : Char → List ℕ
+written c = cond (isCr c) [] (encode (c .code))
+
+-- the text of characters there
 unfoldable pub clean : List Char → List ℕ
 clean [] = []
-clean (c ∷ cs) = cond (isCr c) (clean cs) (encode (c .code) ++ clean cs)
+clean (c ∷ cs) = written c ++ clean cs
