@@ -4,3 +4,4 @@ pub mod Bodies
 pub mod Ends
 pub mod Spans
 pub mod LineEnds
+pub mod Texts
