@@ -17,9 +17,9 @@ use Rattle.bodies.specs.Body.{isLf, isCr, one, count, bodyOf, emptyAt, g
 use Rattle.bodies.specs.Counted.{Counted}
 use Rattle.bodies.proofs.Chars.{code-at}
 
-same-body : {e e′ n n′ l l′ c c′ s s′ : ℕ} {t : Bool} → e ≡ e′ → n ≡ n′ → l ≡ l′ → c ≡ c′ → s ≡ s′
-    → _≡_ {A = Body} (record { end = e; chars = n; closed = t; lfs = l; crs = c; strays = s }) (record { end = e′; chars = n′; closed = t; lfs = l′; crs = c′; strays = s′ })
-same-body f g h k m = cc
+pub same-body : {e e′ n n′ l l′ c c′ s s′ : ℕ} {t t′ : Bool} → e ≡ e′ → n ≡ n′ → t ≡ t′ → l ≡ l′ → c ≡ c′ → s ≡ s′
+    → _≡_ {A = Body} (record { end = e; chars = n; closed = t; lfs = l; crs = c; strays = s }) (record { end = e′; chars = n′; closed = t′; lfs = l′; crs = c′; strays = s′ })
+same-body f g u h k m = cc
 
 -- ---- what was read, and a span of the characters left
 abbrev pub joined : Body → Span → List Char → Body
@@ -36,15 +36,15 @@ joined b s r =
 joined-more : (b : Body) (c : Char) (s : Span) (r : List Char) → joined b (more s) (c ∷ r) ≡ joined (grown b c false) s r
 unfolding grown
 joined-more b c s r =
-    same-body (sym (add-assoc (b .end) (c .width) _)) (omega arith)
+    same-body (sym (add-assoc (b .end) (c .width) _)) (omega arith) refl
     (sym (add-assoc (b .lfs) (one (isLf c)) _)) (sym (add-assoc (b .crs) (one (isCr c)) _)) (sym (add-assoc (b .strays) (one (isStray c)) _))
 
 joined-last : (b : Body) (c : Char) (r : List Char) → joined b last (c ∷ r) ≡ grown b c true
 unfolding grown
-joined-last b c r = same-body (omega arith) refl (omega arith) (omega arith) (omega arith)
+joined-last b c r = same-body (omega arith) refl refl (omega arith) (omega arith) (omega arith)
 
 joined-none : (b : Body) → b .closed ≡ false → joined b unclosed [] ≡ b
-joined-none b e = same-body (add-zero _) (add-zero _) (add-zero _) (add-zero _) (add-zero _) ∙ ap (λ (t : Bool). record { end = b .end; chars = b .chars; closed = t; lfs = b .lfs; crs = b .crs; strays = b .strays }) (sym e)
+joined-none b e = same-body (add-zero _) (add-zero _) (sym e) (add-zero _) (add-zero _) (add-zero _)
 
 -- the whole body, of a text: f finds the span in what is left
 abbrev pub whole : (List Char → Span) → List ℕ → Body → Body
@@ -52,7 +52,7 @@ whole f s b = joined b (f (chars (drop (b .end) s))) (chars (drop (b .end) s))
 
 whole-start : (f : List Char → Span) (s : List ℕ) (at : ℕ) → bodyOf at (f (chars (drop at s))) (chars (drop at s)) ≡ whole f s (emptyAt at)
 unfolding bodyOf
-whole-start f s at = same-body refl (sym (zero-add _)) (sym (zero-add _)) (sym (zero-add _)) (sym (zero-add _))
+whole-start f s at = same-body refl (sym (zero-add _)) refl (sym (zero-add _)) (sym (zero-add _)) (sym (zero-add _))
 
 module _ (f : List Char → Span) (s : List ℕ) (b : Body) where
   whole-end : f [] ≡ unclosed → length s ≤ b .end → b .closed ≡ false → whole f s b ≡ b
@@ -113,7 +113,7 @@ module _ (s : List ℕ) (b : Body) (h : b .end < length s) (t : Bool) where
       → record { end = b .end + 1; chars = b .chars + 1; closed = t; lfs = b .lfs + x; crs = b .crs + y; strays = b .strays } ≡ grown b (charAt s (b .end)) t
   unfolding grown
   grown-ascii l x y e k =
-      rw (charAt-ascii s (b .end) h l, ne-eqb (getD s (b .end) 0) 0xFFFD (λ z. omega arith), e, k) (same-body refl refl refl refl (sym (add-zero _)))
+      rw (charAt-ascii s (b .end) h l, ne-eqb (getD s (b .end) 0) 0xFFFD (λ z. omega arith), e, k) (same-body refl refl refl refl refl (sym (add-zero _)))
 
   pub grown-wide : 0x80 ≤ getD s (b .end) 0 → (c : Char) → c ≡ charAt s (b .end) → (x : ℕ) → x ≡ one (isStray c)
       → record { end = b .end + c .width; chars = b .chars + 1; closed = t; lfs = b .lfs; crs = b .crs; strays = b .strays + x } ≡ grown b (charAt s (b .end)) t
@@ -127,7 +127,7 @@ module _ (s : List ℕ) (b : Body) (h : b .end < length s) (t : Bool) where
         ne-eqb (getD s (b .end) 0) 13 (λ z. omega arith),
         k,
       )
-      (same-body refl refl (sym (add-zero _)) (sym (add-zero _)) refl)
+      (same-body refl refl refl (sym (add-zero _)) (sym (add-zero _)) refl)
 
 -- ---- a loop that reads a body: w is the whole one, of a text s; f finds the span in what is left
 pub record Reading (w : Body) (f : List Char → Span) (s : List ℕ) (b : Body) : Type 0 where

@@ -1,4 +1,5 @@
 // Bodies of raw strings and comments: where they end, and what they hold.
+use crate::plain;
 ghost use mathlib.Core.Path.{_≡_};
 ghost use Prim.Native.Nat.{_<_};
 ghost use lib.ListN.{length, drop};
@@ -72,8 +73,18 @@ fn body_to(src: &[u8], at: usize, stop: u8) -> Body
     ensures { λ r. ⌜ r ≡ stopBody stop at (chars (drop at (now (src .entry)))) ⌝ }
 {
     let mut body = empty(at);
+    // up to here no block of plain bytes starts
+    let mut tried = at;
     while body.end < src.len() {
         let p = body.end;
+        if tried <= p {
+            if plain::is_block(src, p, stop) {
+                body.end = p + 16;
+                body.chars += 16;
+                continue;
+            }
+            tried = p + 16;
+        }
         let closes = src[p] == stop;
         body = grow(src, body, closes);
         if closes {
@@ -103,8 +114,18 @@ pub fn block_body(src: &[u8], at: usize) -> Body
 {
     let mut body = empty(at);
     let mut star = false;
+    // up to here no block of plain bytes starts
+    let mut tried = at;
     while body.end < src.len() {
         let p = body.end;
+        if !star & (tried <= p) {
+            if plain::is_block(src, p, 42) {
+                body.end = p + 16;
+                body.chars += 16;
+                continue;
+            }
+            tried = p + 16;
+        }
         let b = src[p];
         let closes = star & (b == 47);
         body = grow(src, body, closes);
