@@ -1,14 +1,15 @@
 -- Laws of spans: they are within the text, one that is not closed is all of it, and one that is closed does not depend on what comes behind.
-use Prim.Native.Nat.{ℕ, suc, _≤_, _<_}
+use Prim.Native.Nat.{ℕ, suc, pred, _≤_, _<_, suc-le-suc}
 use mathlib.Core.Path.{_≡_, refl, sym, ap, _∙_}
 use mathlib.Core.Bool.{Bool, true, false, cond, _&&_, true≢false, false≢true}
 use mathlib.Core.List.{List, [], _∷_, _++_}
 use native.Mathlib.Omega.{arith}
 use lib.Dec.{eqb, lit≤}
-use lib.ListN.{length}
+use lib.ListN.{length, getD}
 use borrow.Author.Tests.{eqb-true, eqb-false}
 use Rattle.basics.proofs.Choice.{and-split}
 use Rattle.utf8.specs.declared.Char.{Char}
+use Rattle.utf8.specs.Chars.{ended}
 use Rattle.bodies.specs.Span.{Span, unclosed, last, more, toStop, toStarSlash}
 use Rattle.bodies.proofs.Ends.{Ends, ends-tail, ends-more, ends-some}
 
@@ -83,3 +84,21 @@ slash-left star (c ∷ r) h e =
   where
     not-feed : eqb (c .code) 47 ≡ true → c .code ≡ 10 → ⊥
     not-feed k g = let z = eqb-true (c .code) 47 k in omega arith
+
+-- ---- the character that closes a span is its last one
+pub record Closing (x : ℕ) (r : List Char) (s : Span) (n : ℕ) : Type 0 where
+  pub len : s .len ≡ suc n
+  pub inside : n < length r
+  pub code : getD r n ended .code ≡ x
+
+pub stop-closing : (x : ℕ) (r : List Char) → toStop x r .closed ≡ true → Closing x r (toStop x r) (pred (toStop x r .len))
+unfolding toStop
+stop-closing x [] e = absurd (false≢true e)
+stop-closing x (c ∷ r) e = go (eqb (c .code) x) refl (stop-closing x r) e
+  where
+    go : (t : Bool) → eqb (c .code) x ≡ t → (toStop x r .closed ≡ true → Closing x r (toStop x r) (pred (toStop x r .len)))
+        → cond t last (more (toStop x r)) .closed ≡ true → Closing x (c ∷ r) (cond t last (more (toStop x r))) (pred (cond t last (more (toStop x r)) .len))
+    go true k f e = record { len = refl; inside = omega arith; code = eqb-true (c .code) x k }
+    go false k f e =
+        let i = f e in
+        record { len = refl; inside = rw (i .len) (suc-le-suc (i .inside)); code = rw (i .len) (i .code) }
