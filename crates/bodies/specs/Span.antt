@@ -27,7 +27,7 @@ unfoldable pub toStop : ℕ → List Char → Span
 toStop stop [] = unclosed
 toStop stop (c ∷ r) = cond (eqb (c .code) stop) last (more (toStop stop r))
 
--- to the first `*/`; `star`: the character before is a `*`. That of the opening is none, and a CR between is a character
+-- to the first `*/`; `star`: the character before is a `*`. The opening's own does not count, and a dropped CR is a character still
 unfoldable pub toStarSlash : Bool → List Char → Span
 toStarSlash star [] = unclosed
 toStarSlash star (c ∷ r) = cond (star && eqb (c .code) 47) last (more (toStarSlash (eqb (c .code) 42) r))
