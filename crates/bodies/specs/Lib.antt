@@ -1,0 +1,5 @@
+pub mod Span
+pub mod Body
+pub mod Counted
+pub mod Plain
+pub mod Line

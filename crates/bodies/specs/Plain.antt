@@ -1,0 +1,18 @@
+-- Blocks of plain bytes, which a body is read over at once.
+use Prim.Native.Nat.{ℕ, _+_}
+use mathlib.Core.Bool.{Bool, false, not, _&&_, _||_}
+use mathlib.Core.List.{List, [], _∷_}
+use lib.Dec.{ltb, leb, eqb}
+use lib.ListN.{length, take, drop}
+
+-- is a byte to be looked at by itself: an LF or CR (below 14), none of ASCII, or one at which the body may close
+abbrev pub special : ℕ → ℕ → Bool
+special stop b = (ltb b 14 || ltb 127 b) || eqb b stop
+
+abbrev pub anySpecial : ℕ → List ℕ → Bool
+anySpecial stop [] = false
+anySpecial stop (b ∷ s) = special stop b || anySpecial stop s
+
+-- do 16 plain bytes stand at a place
+unfoldable pub plainBlock : ℕ → List ℕ → ℕ → Bool
+plainBlock stop s at = leb (at + 16) (length s) && not (anySpecial stop (take 16 (drop at s)))

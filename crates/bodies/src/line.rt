@@ -1,0 +1,77 @@
+// Whether a general comment ends its line.
+ghost use mathlib.Core.Path.{_≡_};
+ghost use mathlib.Core.Bool.{false};
+ghost use lib.ListN.{drop};
+ghost use Rattle.utf8.specs.Chars.{chars};
+ghost use Rattle.bodies.specs.Line.{isBlank, blankToEnd, stopFrom, endsLine};
+
+// Where and how the search for a comment's end stopped: closed before a place, or at the end of its line or of the source.
+pub(crate) enum Stop {
+    Closed(usize),
+    End { lf: bool },
+}
+
+// A space, a tab or a CR.
+fn is_blank(b: u8) -> bool
+    ensures { λ r. ⌜ r ≡ isBlank b ⌝ }
+{
+    if b == 32 {
+        return true;
+    }
+    if b == 9 {
+        return true;
+    }
+    b == 13
+}
+
+// Are there only blanks from a place to an LF or the end?
+fn blank_to_end(src: &[u8], at: usize) -> bool
+    ensures { λ r. ⌜ r ≡ blankToEnd (chars (drop at (now (src .entry)))) ⌝ }
+{
+    let mut p = at;
+    while p < src.len() {
+        let b = src[p];
+        if b == 10 {
+            return true;
+        }
+        if !is_blank(b) {
+            return false;
+        }
+        p += 1;
+    }
+    true
+}
+
+// Searches the end of a general comment, from after its opening, within its line.
+fn comment_end(src: &[u8], at: usize) -> Stop
+    ensures { λ r. ⌜ r ≡ stopFrom at false (chars (drop at (now (src .entry)))) ⌝ }
+{
+    let mut p = at;
+    let mut star = false;
+    let stop = loop {
+        if p >= src.len() {
+            break Stop::End { lf: false };
+        }
+        let b = src[p];
+        if b == 10 {
+            break Stop::End { lf: true };
+        }
+        p += utf8::char_at(src, p).width;
+        if star & (b == 47) {
+            break Stop::Closed(p);
+        }
+        star = b == 42;
+    };
+    stop
+}
+
+// Does a general comment end its line? `at` is the place after its opening.
+pub fn ends_line(src: &[u8], at: usize) -> bool
+    ensures { λ r. ⌜ r ≡ endsLine false (chars (drop at (now (src .entry)))) ⌝ }
+{
+    let stop = comment_end(src, at);
+    match stop {
+        Stop::Closed(next) => blank_to_end(src, next),
+        Stop::End { lf: _ } => true,
+    }
+}
