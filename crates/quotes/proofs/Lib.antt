@@ -1,0 +1,5 @@
+pub mod Numerals
+pub mod EscapeLaws
+pub mod Heads
+pub mod Bodies
+pub mod Places
