@@ -86,7 +86,7 @@ following-out c o =
     )
 
 -- a test that fails
-not-so : (a b : ℕ) → eqb a b ≡ false → a ≡ b → ⊥
+pub not-so : (a b : ℕ) → eqb a b ≡ false → a ≡ b → ⊥
 not-so a b f e = true≢false (sym (eq-eqb a b e) ∙ f)
 
 -- ---- what holds of the quote and of all codes between 0 and z holds of what an escape reads

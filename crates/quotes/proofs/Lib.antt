@@ -3,3 +3,4 @@ pub mod EscapeLaws
 pub mod Heads
 pub mod Bodies
 pub mod Places
+pub mod Local
