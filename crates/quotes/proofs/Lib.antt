@@ -4,3 +4,4 @@ pub mod Heads
 pub mod Bodies
 pub mod Places
 pub mod Local
+pub mod Shown

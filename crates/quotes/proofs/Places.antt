@@ -154,7 +154,7 @@ module _ (q : Quoted) (p : ℕ) (c : Char) (r : List Char) (n : ℕ) (b : Body) 
       λ i. record { end = e1 i; chars = e2 i; closed = b .closed; error = b .error; count = e3 i; code = e4 i; escaped = e7 i; strays = e5 i; bytes = e6 i }
 
 -- ---- a character at a place: a stray byte gives two bytes more than it has
-stray-there : (s : List ℕ) (p : ℕ) → p < length s → length (encode (firstChar (drop p s) .code)) ≡ firstChar (drop p s) .width + 2 * cond (isStray (firstChar (drop p s))) 1 0
+pub stray-there : (s : List ℕ) (p : ℕ) → p < length s → length (encode (firstChar (drop p s) .code)) ≡ firstChar (drop p s) .width + 2 * cond (isStray (firstChar (drop p s))) 1 0
 unfolding encode octets
 stray-there s p h =
     let z : 0 < length (drop p s) = omega (arith, length-drop p s) in
