@@ -72,7 +72,7 @@ One g = length (bytesOf g) ≤ 1
 abbrev Twice : Escaped → Type 0
 Twice x = length (bytesOf (x .given)) ≤ 2 * (x .len + 1)
 
-encode-most : (n : ℕ) → length (encode n) ≤ 4
+pub encode-most : (n : ℕ) → length (encode n) ≤ 4
 unfolding encode octets
 encode-most n =
     cond-ind Short (isScalar n) _ _
@@ -85,7 +85,7 @@ given-most (Value code true) = lit≤ tt
 given-most (Value code false) = encode-most code
 given-most (Bad error) = lit≤ tt
 
-byte-most : (n : Numeral) → length (bytesOf (byteOf n)) ≤ 1
+pub byte-most : (n : Numeral) → length (bytesOf (byteOf n)) ≤ 1
 unfolding byteOf
 byte-most n =
     cond-ind One (eqb (n .error) 0) _ _ (λ _. cond-ind One (ltb 255 (n .value)) _ _ (λ _. lit≤ tt) (λ _. lit≤ tt)) (λ _. lit≤ tt)

@@ -5,3 +5,4 @@ pub mod Bodies
 pub mod Places
 pub mod Local
 pub mod Shown
+pub mod Shorter
