@@ -6,3 +6,4 @@ pub mod Places
 pub mod Local
 pub mod Shown
 pub mod Shorter
+pub mod Counts

@@ -1,5 +1,5 @@
 -- The value of a body without an escape: the bytes of its characters, where each stray byte gives three.
-use Prim.Native.Nat.{ℕ, zero, suc, _+_, _*_, _≤_, _<_}
+use Prim.Native.Nat.{ℕ, zero, suc, _+_, _*_}
 use mathlib.Core.Path.{_≡_, refl, sym, ap, ap₂, _∙_}
 use mathlib.Core.Bool.{true, false, cond, true≢false, false≢true}
 use mathlib.Core.List.{List, [], _∷_, _++_}
@@ -9,6 +9,7 @@ use native.Mathlib.Decide.{decLt}
 use lib.Dec.{eqb}
 use lib.ListN.{length, take, drop, length-append, length-drop}
 use lib.Seq.{take-add, drop-drop}
+use borrow.Author.Tests.{eqb-true}
 use Rattle.basics.proofs.Choice.{cond-ind, either}
 use Rattle.utf8.specs.declared.Char.{Char}
 use Rattle.utf8.specs.Chars.{firstChar, chars, isStray, widths, encode, encoded}
@@ -18,6 +19,7 @@ use Rattle.quotes.specs.declared.Given.{Given}
 use Rattle.quotes.specs.declared.Given.the-variants.{Value, Bad}
 use Rattle.quotes.specs.Escape.{escapeOf}
 use Rattle.quotes.specs.Body.{Body, escape, bodyFrom, body}
+use Rattle.quotes.proofs.Heads.{Heads}
 use Rattle.quotes.proofs.Places.{stray-there}
 
 -- how many characters are stray bytes
@@ -26,31 +28,32 @@ straysIn [] = 0
 straysIn (c ∷ r) = cond (isStray c) 1 0 + straysIn r
 
 -- a body of characters that are written as themselves
-pub record Plain (r : List Char) (b : Body) : Type 0 where
+pub record Plain (quote : ℕ) (r : List Char) (b : Body) : Type 0 where
   pub value : b .value ≡ encoded (take (b .count) r)
   pub strays : b .strays ≡ straysIn (take (b .count) r)
-  pub closed : b .closed ≡ true → b .len ≡ suc (b .count)
+  -- the closing quote stands after them, and is read
+  pub closed : b .closed ≡ true → (b .len ≡ suc (b .count)) × Heads (λ c. c ≡ quote) 1 (drop (b .count) r)
 
-escape-plain : (r : List Char) (n : ℕ) (g : Given) (b : Body) → escape n g b .escaped ≡ false → Plain r (escape n g b)
-escape-plain r n (Bad error) b h = record { value = refl; strays = refl; closed = λ e. absurd (false≢true e) }
-escape-plain r n (Value code byte) b h = absurd (true≢false h)
+escape-plain : (quote : ℕ) (r : List Char) (n : ℕ) (g : Given) (b : Body) → escape n g b .escaped ≡ false → Plain quote r (escape n g b)
+escape-plain quote r n (Bad error) b h = record { value = refl; strays = refl; closed = λ e. absurd (false≢true e) }
+escape-plain quote r n (Value code byte) b h = absurd (true≢false h)
 
-pub body-plain : (quote : ℕ) (r : List Char) → body quote r .escaped ≡ false → Plain r (body quote r)
+pub body-plain : (quote : ℕ) (r : List Char) → body quote r .escaped ≡ false → Plain quote r (body quote r)
 unfolding bodyFrom
 body-plain quote [] = λ h. record { value = refl; strays = refl; closed = λ e. absurd (false≢true e) }
 body-plain quote (c ∷ r) =
-    cond-ind (λ (b : Body). b .escaped ≡ false → Plain (c ∷ r) b) (eqb (c .code) quote) _ _
-    (λ _ h. record { value = refl; strays = refl; closed = λ e. refl })
-    (λ _. cond-ind (λ (b : Body). b .escaped ≡ false → Plain (c ∷ r) b) (eqb (c .code) 10) _ _
+    cond-ind (λ (b : Body). b .escaped ≡ false → Plain quote (c ∷ r) b) (eqb (c .code) quote) _ _
+    (λ q h. record { value = refl; strays = refl; closed = λ e. (refl, (eqb-true (c .code) quote q, tt)) })
+    (λ _. cond-ind (λ (b : Body). b .escaped ≡ false → Plain quote (c ∷ r) b) (eqb (c .code) 10) _ _
     (λ _ h. record { value = refl; strays = refl; closed = λ e. absurd (false≢true e) })
-    (λ _. cond-ind (λ (b : Body). b .escaped ≡ false → Plain (c ∷ r) b) (eqb (c .code) 92) _ _
-    (λ _ h. escape-plain (c ∷ r) _ (escapeOf quote r .given) _ h)
+    (λ _. cond-ind (λ (b : Body). b .escaped ≡ false → Plain quote (c ∷ r) b) (eqb (c .code) 92) _ _
+    (λ _ h. escape-plain quote (c ∷ r) _ (escapeOf quote r .given) _ h)
     (λ _ h.
     let i = body-plain quote r h in
     record {
       value = ap (λ l. encode (c .code) ++ l) (i .value);
       strays = ap (λ n. cond (isStray c) 1 0 + n) (i .strays);
-      closed = λ e. ap suc (i .closed e);
+      closed = λ e. (ap suc (i .closed e .0), i .closed e .1);
     })))
 
 -- ---- the first k characters at a place

@@ -1,6 +1,6 @@
 -- The body of a quoted literal, from after its opening quote.
 use Prim.Native.Nat.{ℕ, zero, suc, _+_, _*_, _-_}
-use mathlib.Core.Bool.{Bool, true, false, cond, _||_}
+use mathlib.Core.Bool.{Bool, true, false, cond}
 use mathlib.Core.List.{List, [], _∷_, _++_}
 use lib.Dec.{eqb}
 use lib.ListN.{length, take, drop}
@@ -8,7 +8,6 @@ use Rattle.utf8.specs.declared.Char.{Char}
 use Rattle.utf8.specs.Chars.{chars, widths, isStray, encode}
 use Rattle.quotes.specs.declared.Given.{Given}
 use Rattle.quotes.specs.declared.Given.the-variants.{Value, Bad}
-use Rattle.quotes.specs.declared.Escaped.{Escaped}
 use Rattle.quotes.specs.declared.Quoted.{Quoted}
 use Rattle.quotes.specs.Escape.{escapeOf, bytesOf}
 

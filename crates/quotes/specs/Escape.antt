@@ -1,6 +1,6 @@
 -- Escapes, by the Go specification's "Rune literals" and "String literals".
 use Prim.Native.Nat.{ℕ, suc}
-use mathlib.Core.Bool.{Bool, true, false, cond}
+use mathlib.Core.Bool.{true, false, cond}
 use mathlib.Core.List.{List, [], _∷_}
 use lib.Dec.{ltb, eqb}
 use Rattle.basics.specs.Between.{between}

@@ -1,6 +1,6 @@
 -- The kind and the error of a quoted literal, by its body.
 use Prim.Native.Nat.{ℕ}
-use mathlib.Core.Bool.{Bool, cond, _&&_}
+use mathlib.Core.Bool.{cond, _&&_}
 use lib.Dec.{eqb}
 use Rattle.token.specs.Kinds.{ILLEGAL, CHAR, STRING}
 use Rattle.quotes.specs.Body.{Body}

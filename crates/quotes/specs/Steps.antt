@@ -1,6 +1,6 @@
 -- The body of a quoted literal as it is read: what one character adds to it, and how it ends.
-use Prim.Native.Nat.{ℕ, _+_, _<_, _^_}
-use mathlib.Core.Bool.{Bool, true, false, cond, _||_}
+use Prim.Native.Nat.{ℕ, _+_}
+use mathlib.Core.Bool.{Bool, cond, _||_}
 use lib.Dec.{eqb}
 use Rattle.quotes.specs.declared.Given.{Given}
 use Rattle.quotes.specs.declared.Given.the-variants.{Value, Bad}

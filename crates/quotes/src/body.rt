@@ -1,5 +1,4 @@
 // The bodies of character literals and strings.
-use crate::Escaped;
 use crate::Given;
 use crate::Quoted;
 use crate::escapes::escape_at;
@@ -74,6 +73,7 @@ fn stray_count(c: utf8::Char) -> usize
     if utf8::is_stray(c) { 1 } else { 0 }
 }
 
+// The body at a place, closed by the quote given.
 fn body_at(src: &[u8], at: usize, quote: u8) -> Quoted
     requires { ⌜ quote < 128 ⌝ }
     ensures { λ r. ⌜ r ≡ quotedAt quote (now (src .entry)) at ⌝ }

@@ -1,6 +1,6 @@
 -- `quotes::body::body_at` meets its contract. The loop's invariant: what was read and what is left make the whole.
 use Prim.Native.Nat.{_+_, _*_, _-_, _^_, _≤_, _<_}
-use mathlib.Core.Path.{_≡_, refl, sym, ap, _∙_}
+use mathlib.Core.Path.{_≡_, refl, sym, _∙_}
 use mathlib.Core.List.{[], _∷_}
 use mathlib.Core.Bool.{true, false, cond}
 use native.Mathlib.Nat.{le-refl}
@@ -8,7 +8,7 @@ use native.Mathlib.Omega.{arith}
 use borrow.Author.Needs.{needs}
 use types.Run.{OneOf}
 use denote.Enum.Declared.{tagOf, declared}
-use lib.ListN.{length, drop, getD}
+use lib.ListN.{length}
 use Rattle.utf8.specs.Chars.{isStray}
 use Rattle.utf8.proofs.First.{there-fits, there-least}
 use Rattle.quotes.proofs.Given.{enum}

@@ -1,6 +1,5 @@
 -- `quotes::escapes::octal_at` meets its contract: by those of its two calls.
-use mathlib.Core.Path.{ap, _∙_}
-use Rattle.quotes.specs.Escape.{octalEscape, byteOf}
+use Rattle.quotes.specs.Escape.{octalEscape}
 use borrow.Author.Needs.{needs}
 use Rattle.quotes.proofs.escapes.octal_at.Statement.{statement}
 use Rattle.quotes.proofs.escapes.octal_at.Tie as tie

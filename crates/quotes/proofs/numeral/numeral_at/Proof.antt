@@ -1,9 +1,9 @@
 -- `quotes::numeral::numeral_at` meets its contract. The loop's invariant: what is left of the digits and what was read make the whole, and the value so far fits its digits.
-use Prim.Native.Nat.{_+_, _*_, _-_, _^_, _≤_, _<_}
-use mathlib.Core.Path.{_≡_, refl, sym, ap, _∙_}
+use Prim.Native.Nat.{_-_, _^_, _≤_, _<_}
+use mathlib.Core.Path.{_≡_, sym, ap, _∙_}
 use native.Mathlib.Omega.{arith}
 use borrow.Author.Needs.{needs}
-use lib.ListN.{length, drop, getD}
+use lib.ListN.{drop, getD}
 use Rattle.utf8.specs.Chars.{chars}
 use Rattle.digits.specs.Digit.{digitVal}
 use Rattle.quotes.specs.Numeral.{numeral}
