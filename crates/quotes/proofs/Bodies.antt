@@ -1,0 +1,109 @@
+-- Laws of a body over its characters: what is skipped, and the size of its value.
+use Prim.Native.Nat.{ℕ, zero, suc, _+_, _*_, _≤_}
+use mathlib.Core.Path.{_≡_, refl, sym, subst}
+use mathlib.Core.Bool.{true, false, cond}
+use mathlib.Core.List.{List, [], _∷_}
+use mathlib.Core.Logic.{⊎-elim}
+use native.Mathlib.Omega.{arith}
+use native.Mathlib.Nat.{zero-add, suc-add}
+use lib.Dec.{eqb, ltb, lit≤}
+use lib.ListN.{length, take, drop, length-append}
+use borrow.Author.Tests.{eqb-true}
+use Rattle.basics.proofs.Choice.{cond-ind, either, and-split}
+use Rattle.utf8.specs.declared.Char.{Char}
+use Rattle.utf8.specs.Chars.{octets, isScalar, encode, isStray, widths}
+use Rattle.digits.specs.Digit.{digitVal}
+use Rattle.quotes.specs.declared.Given.{Given}
+use Rattle.quotes.specs.declared.Given.the-variants.{Value, Bad}
+use Rattle.quotes.specs.declared.Escaped.{Escaped}
+use Rattle.quotes.specs.declared.numeral.Numeral.{Numeral}
+use Rattle.quotes.specs.Numeral.{numeral}
+use Rattle.quotes.specs.Escape.{letter, following, byteOf, codeOf, octalEscape, hexEscape, escapeOf, bytesOf}
+use Rattle.quotes.specs.Body.{Body, plain, escape, bodyFrom, body}
+
+pub body-skip : (quote k : ℕ) (r : List Char) → bodyFrom quote k r ≡ body quote (drop k r)
+unfolding bodyFrom
+body-skip quote zero r = refl
+body-skip quote (suc k) [] = refl
+body-skip quote (suc k) (c ∷ r) = body-skip quote k r
+
+pub widths-split : (n m : ℕ) (r : List Char) → widths (take (n + m) r) ≡ widths (take n r) + widths (take m (drop n r))
+widths-split zero m r = rw (zero-add m) (sym (zero-add (widths (take m r))))
+widths-split (suc n) zero [] = rw (suc-add n 0)
+widths-split (suc n) (suc m) [] = rw (suc-add n (suc m))
+widths-split (suc n) m (c ∷ r) = rw (suc-add n m) (omega (arith, widths-split n m r))
+
+-- ---- the value has two bytes more than it has stray bytes, for each of them
+stray-size : (c : Char) → 2 * cond (isStray c) 1 0 ≤ length (encode (c .code))
+unfolding encode octets
+stray-size c =
+    ⊎-elim
+    (λ (t : isStray c ≡ true). let q = and-split (eqb (c .width) 1) (eqb (c .code) 0xFFFD) t in rw (t, eqb-true (c .code) 0xFFFD (q .1)) (lit≤ tt))
+    (λ (t : isStray c ≡ false). rw t (omega arith))
+    (either (isStray c))
+
+plain-size : (c : Char) (b : Body) → 2 * b .strays ≤ length (b .value) → 2 * plain c b .strays ≤ length (plain c b .value)
+plain-size c b h = omega (arith, stray-size c, length-append (encode (c .code)) (b .value))
+
+escape-size : (n : ℕ) (g : Given) (b : Body) → 2 * b .strays ≤ length (b .value) → 2 * escape n g b .strays ≤ length (escape n g b .value)
+escape-size n (Bad error) b h = lit≤ tt
+escape-size n (Value code byte) b h = omega (arith, length-append (bytesOf (Value code byte)) (b .value))
+
+abbrev Roomy : Body → Type 0
+Roomy b = 2 * b .strays ≤ length (b .value)
+
+pub strays-fit : (quote : ℕ) (r : List Char) (k : ℕ) → Roomy (bodyFrom quote k r)
+unfolding bodyFrom
+strays-fit quote [] k = lit≤ tt
+strays-fit quote (c ∷ r) (suc k) = strays-fit quote r k
+strays-fit quote (c ∷ r) zero =
+    cond-ind Roomy (eqb (c .code) quote) _ _ (λ _. lit≤ tt)
+    (λ _. cond-ind Roomy (eqb (c .code) 10) _ _ (λ _. lit≤ tt)
+    (λ _. cond-ind Roomy (eqb (c .code) 92) _ _
+    (λ _. escape-size _ (escapeOf quote r .given) (bodyFrom quote (escapeOf quote r .len) r) (strays-fit quote r (escapeOf quote r .len))) (λ _. plain-size c (bodyFrom quote 0 r) (strays-fit quote r 0))))
+
+-- ---- what an escape gives is at most twice as long as the escape with its backslash
+abbrev Short : List ℕ → Type 0
+Short l = length l ≤ 4
+
+abbrev One : Given → Type 0
+One g = length (bytesOf g) ≤ 1
+
+abbrev Twice : Escaped → Type 0
+Twice x = length (bytesOf (x .given)) ≤ 2 * (x .len + 1)
+
+pub encode-most : (n : ℕ) → length (encode n) ≤ 4
+unfolding encode octets
+encode-most n =
+    cond-ind Short (isScalar n) _ _
+    (λ _. cond-ind Short (ltb n 0x80) _ _ (λ _. lit≤ tt)
+    (λ _. cond-ind Short (ltb n 0x800) _ _ (λ _. lit≤ tt) (λ _. cond-ind Short (ltb n 0x10000) _ _ (λ _. lit≤ tt) (λ _. lit≤ tt))))
+    (λ _. lit≤ tt)
+
+given-most : (g : Given) → length (bytesOf g) ≤ 4
+given-most (Value code true) = lit≤ tt
+given-most (Value code false) = encode-most code
+given-most (Bad error) = lit≤ tt
+
+pub byte-most : (n : Numeral) → length (bytesOf (byteOf n)) ≤ 1
+unfolding byteOf
+byte-most n =
+    cond-ind One (eqb (n .error) 0) _ _ (λ _. cond-ind One (ltb 255 (n .value)) _ _ (λ _. lit≤ tt) (λ _. lit≤ tt)) (λ _. lit≤ tt)
+
+hex-bytes : (first : ℕ) (r : List Char) → Twice (hexEscape first r)
+unfolding hexEscape
+hex-bytes first r =
+    cond-ind Twice (eqb (following first) 0) _ _ (λ _. lit≤ tt)
+    (λ _. omega (arith, given-most (cond (eqb first 120) (byteOf (numeral 16 (following first) 0 r)) (codeOf (numeral 16 (following first) 0 r)))))
+
+escape-bytes : (quote : ℕ) (r : List Char) → Twice (escapeOf quote r)
+unfolding escapeOf octalEscape
+escape-bytes quote [] = lit≤ tt
+escape-bytes quote (c ∷ r) =
+    cond-ind Twice (eqb (letter (c .code)) 0) _ _
+    (λ _. cond-ind Twice (eqb (c .code) quote) _ _ (λ _. encode-most (c .code))
+    (λ _. cond-ind Twice (ltb (digitVal (c .code)) 8) _ _ (λ _. omega (arith, byte-most (numeral 8 3 0 (c ∷ r)))) (λ _. hex-bytes (c .code) r)))
+    (λ _. encode-most (letter (c .code)))
+
+pub escape-gives : (quote : ℕ) (r : List Char) (x : Escaped) (g : Given) → x ≡ escapeOf quote r → x .given ≡ g → length (bytesOf g) ≤ 2 * (x .len + 1)
+escape-gives quote r x g e v = subst (λ (y : Given). length (bytesOf y) ≤ 2 * (x .len + 1)) v (subst Twice (sym e) (escape-bytes quote r))

@@ -1,0 +1,134 @@
+-- The characters that an escape reads: they are there, and each is the quote or lies between 0 and z.
+use Prim.Native.Nat.{ℕ, zero, suc, _*_, _+_, _≤_, _<_, suc-le-suc}
+use mathlib.Core.Path.{_≡_, sym, _∙_, subst}
+use mathlib.Core.Bool.{false, true≢false}
+use mathlib.Core.List.{List, [], _∷_}
+use mathlib.Core.Logic.{_⊎_, inl, inr, ⊎-elim}
+use native.Mathlib.Omega.{arith}
+use native.Mathlib.Nat.{not-suc-le-zero, le-of-suc-le-suc}
+use native.Mathlib.Decide.{decLt}
+use lib.Dec.{eqb, ltb}
+use lib.ListN.{length, getD, take, drop}
+use borrow.Author.Tests.{eq-eqb, ne-eqb, eqb-true, ltb-true, lt-leb, le-leb}
+use Rattle.basics.proofs.Choice.{cond-ind}
+use Rattle.utf8.specs.declared.Char.{Char}
+use Rattle.utf8.specs.Chars.{ended, chars, widths}
+use Rattle.utf8.proofs.Places.{ascii-widths}
+use Rattle.digits.specs.Digit.{digitVal}
+use Rattle.quotes.specs.declared.numeral.Numeral.{Numeral}
+use Rattle.quotes.specs.declared.Escaped.{Escaped}
+use Rattle.quotes.specs.Numeral.{numeral}
+use Rattle.quotes.specs.Escape.{letter, following, octalEscape, hexEscape, escapeOf}
+
+-- n characters stand at the head of a list, and P holds of the code of each
+abbrev pub Heads : (ℕ → Type 0) → ℕ → List Char → Type 0
+Heads P zero r = Unit {0}
+Heads P (suc n) [] = ⊥
+Heads P (suc n) (c ∷ r) = P (c .code) × Heads P n r
+
+pub heads-bound : (P : ℕ → Type 0) (n : ℕ) (r : List Char) → Heads P n r → n ≤ length r
+heads-bound P zero r h = omega arith
+heads-bound P (suc n) [] h = absurd h
+heads-bound P (suc n) (c ∷ r) h = suc-le-suc (heads-bound P n r (h .1))
+
+pub heads-at : (P : ℕ → Type 0) (n : ℕ) (r : List Char) → Heads P n r → (i : ℕ) → i < n → P (getD r i ended .code)
+heads-at P zero r h i l = absurd (not-suc-le-zero l)
+heads-at P (suc n) [] h i l = absurd h
+heads-at P (suc n) (c ∷ r) h zero l = h .0
+heads-at P (suc n) (c ∷ r) h (suc i) l = heads-at P n r (h .1) i (le-of-suc-le-suc l)
+
+-- ---- codes between 0 and z
+abbrev Out : ℕ → Type 0
+Out c = (c < 48) ⊎ (122 < c)
+
+within : (c : ℕ) → (Out c → ⊥) → (48 ≤ c) × (c ≤ 122)
+within c f =
+    elim (decLt c 48) [
+      | yes k ↦ absurd (f (inl k))
+      | no k ↦ elim (decLt 122 c) [ yes m ↦ absurd (f (inr m)) | no m ↦ (omega arith, omega arith) ]
+    ]
+
+apart : (c x : ℕ) → 48 ≤ x → x ≤ 122 → Out c → c ≡ x → ⊥
+apart c x l h o e = ⊎-elim (λ k. omega arith) (λ k. omega arith) o
+
+digit-out : (c : ℕ) → Out c → digitVal c ≡ 16
+unfolding digitVal
+digit-out c o =
+    ⊎-elim
+    (λ k. simp (lt-leb 48 c k, lt-leb 97 c (omega arith), lt-leb 65 c (omega arith)))
+    (λ k. simp (le-leb 48 c (omega arith), lt-leb c 57 (omega arith), le-leb 97 c (omega arith), lt-leb c 102 (omega arith), le-leb 65 c (omega arith), lt-leb c 70 (omega arith)))
+    o
+
+digit-in : (c : ℕ) → digitVal c < 16 → (48 ≤ c) × (c ≤ 122)
+digit-in c d = within c (λ o. omega (arith, digit-out c o))
+
+letter-out : (c : ℕ) → Out c → letter c ≡ 0
+unfolding letter
+letter-out c o =
+    simp (
+      ne-eqb c 97 (apart c 97 (omega arith) (omega arith) o),
+      ne-eqb c 98 (apart c 98 (omega arith) (omega arith) o),
+      ne-eqb c 102 (apart c 102 (omega arith) (omega arith) o),
+      ne-eqb c 110 (apart c 110 (omega arith) (omega arith) o),
+      ne-eqb c 114 (apart c 114 (omega arith) (omega arith) o),
+      ne-eqb c 116 (apart c 116 (omega arith) (omega arith) o),
+      ne-eqb c 118 (apart c 118 (omega arith) (omega arith) o),
+      ne-eqb c 92 (apart c 92 (omega arith) (omega arith) o),
+    )
+
+following-out : (c : ℕ) → Out c → following c ≡ 0
+unfolding following
+following-out c o =
+    simp (
+      ne-eqb c 120 (apart c 120 (omega arith) (omega arith) o),
+      ne-eqb c 117 (apart c 117 (omega arith) (omega arith) o),
+      ne-eqb c 85 (apart c 85 (omega arith) (omega arith) o),
+    )
+
+-- a test that fails
+pub not-so : (a b : ℕ) → eqb a b ≡ false → a ≡ b → ⊥
+not-so a b f e = true≢false (sym (eq-eqb a b e) ∙ f)
+
+-- ---- what holds of the quote and of all codes between 0 and z holds of what an escape reads
+module _ (P : ℕ → Type 0) (inside : (c : ℕ) → 48 ≤ c → c ≤ 122 → P c) where
+  pub numeral-heads : (base n v : ℕ) (r : List Char) → base ≤ 16 → Heads P (numeral base n v r .len) r
+  unfolding numeral
+  numeral-heads base zero v r l = tt
+  numeral-heads base (suc n) v [] l = tt
+  numeral-heads base (suc n) v (c ∷ r) l =
+      let ih = numeral-heads base n (v * base + digitVal (c .code)) r l in
+      cond-ind (λ (x : Numeral). Heads P (x .len) (c ∷ r)) (ltb (digitVal (c .code)) base) _ _
+      (λ d. let g = digit-in (c .code) (omega (arith, ltb-true (digitVal (c .code)) base d)) in (inside (c .code) (g .0) (g .1), ih)) (λ _. tt)
+
+  hex-heads : (c : Char) (r : List Char) → Heads P (hexEscape (c .code) r .len) (c ∷ r)
+  unfolding hexEscape
+  hex-heads c r =
+      cond-ind (λ (x : Escaped). Heads P (x .len) (c ∷ r)) (eqb (following (c .code)) 0) _ _ (λ _. tt)
+      (λ f. let g = within (c .code) (λ o. not-so _ _ f (following-out (c .code) o)) in (inside (c .code) (g .0) (g .1), numeral-heads 16 (following (c .code)) 0 r (omega arith)))
+
+  module _ (quote : ℕ) (at-quote : P quote) where
+    pub escape-heads : (r : List Char) → Heads P (escapeOf quote r .len) r
+    unfolding escapeOf octalEscape
+    escape-heads [] = tt
+    escape-heads (c ∷ r) =
+        cond-ind (λ (x : Escaped). Heads P (x .len) (c ∷ r)) (eqb (letter (c .code)) 0) _ _
+        (λ _. cond-ind (λ (x : Escaped). Heads P (x .len) (c ∷ r)) (eqb (c .code) quote) _ _
+        (λ q. (subst P (sym (eqb-true (c .code) quote q)) at-quote, tt))
+        (λ _. cond-ind (λ (x : Escaped). Heads P (x .len) (c ∷ r)) (ltb (digitVal (c .code)) 8) _ _
+        (λ _. numeral-heads 8 3 0 (c ∷ r) (omega arith)) (λ _. hex-heads c r)))
+        (λ l. let g = within (c .code) (λ o. not-so _ _ l (letter-out (c .code) o)) in (inside (c .code) (g .0) (g .1), tt))
+
+-- an escape reads characters of the text
+pub escape-bound : (quote : ℕ) (r : List Char) → escapeOf quote r .len ≤ length r
+escape-bound quote r = heads-bound (λ _. Unit {0}) _ r (escape-heads (λ _. Unit {0}) (λ c l h. tt) quote tt r)
+
+-- it reads no LF
+pub escape-no-lf : (quote : ℕ) → (quote ≡ 10 → ⊥) → (r : List Char) (i : ℕ) → i < escapeOf quote r .len → getD r i ended .code ≡ 10 → ⊥
+escape-no-lf quote q r = heads-at (λ c. c ≡ 10 → ⊥) _ r (escape-heads (λ c. c ≡ 10 → ⊥) (λ c l h e. omega arith) quote q r)
+
+-- with an ASCII quote, each of its characters is one byte
+pub escape-widths : (quote : ℕ) (s : List ℕ) (p : ℕ) → quote < 0x80
+    → widths (take (escapeOf quote (chars (drop p s)) .len) (chars (drop p s))) ≡ escapeOf quote (chars (drop p s)) .len
+escape-widths quote s p q =
+    let r = chars (drop p s) in
+    ascii-widths (escapeOf quote r .len) s p (escape-bound quote r) (heads-at (λ c. c < 0x80) _ r (escape-heads (λ c. c < 0x80) (λ c l h. omega arith) quote q r))

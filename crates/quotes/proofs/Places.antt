@@ -1,0 +1,226 @@
+-- Laws of a body at a place of a text: what was read of it and what is left make the whole.
+use Prim.Native.Nat.{ℕ, suc, _+_, _*_, _-_, _^_, _≤_, _<_}
+use mathlib.Core.Path.{_≡_, refl, sym, ap, _∙_}
+use mathlib.Core.Bool.{Bool, true, false, cond, _||_}
+use mathlib.Core.List.{List, [], _∷_}
+use mathlib.Core.Logic.{⊎-elim}
+use native.Mathlib.Omega.{arith}
+use native.Mathlib.Numerals.{add-one}
+use native.Mathlib.Nat.{add-zero, zero-add, suc-add}
+use lib.Dec.{eqb, lit<}
+use lib.ListN.{length, getD, take, drop, length-append, length-drop, length-take}
+use borrow.Author.Tests.{eq-eqb, ne-eqb}
+use Rattle.basics.proofs.Choice.{cond-ind, either}
+use Rattle.utf8.specs.declared.Char.{Char}
+use Rattle.utf8.specs.Chars.{stray, octets, encode, firstChar, charAt, chars, isStray, widths}
+use Rattle.utf8.proofs.First.{ascii, charAt-in, chars-end, chars-ascii, chars-le, first-fits, there-chars}
+use Rattle.utf8.proofs.Places.{code-there, place-chars}
+use Rattle.utf8.proofs.Append.{first-stray}
+use Rattle.utf8.proofs.Encoding.{first-coded}
+use Rattle.quotes.specs.declared.Given.the-variants.{Value, Bad}
+use Rattle.quotes.specs.declared.Escaped.{Escaped}
+use Rattle.quotes.specs.declared.Quoted.{Quoted}
+use Rattle.quotes.specs.Escape.{escapeOf, bytesOf}
+use Rattle.quotes.specs.Body.{Body, ends, plain, escape, bodyFrom, body, placed, quotedAt}
+use Rattle.quotes.specs.Steps.{added, stopped}
+use Rattle.quotes.proofs.Heads.{escape-bound, escape-widths}
+use Rattle.quotes.proofs.Bodies.{body-skip, widths-split, strays-fit}
+
+-- what was read, and the rest
+unfoldable pub joined : Quoted → Quoted → Quoted
+joined q x =
+    record {
+      end = x .end;
+      chars = q .chars + x .chars;
+      closed = x .closed;
+      error = x .error;
+      count = q .count + x .count;
+      code = cond (eqb (q .count) 0) (x .code) (q .code);
+      escaped = q .escaped || x .escaped;
+      strays = q .strays + x .strays;
+      bytes = q .bytes + x .bytes;
+    }
+
+-- before the first character there is no code
+abbrev pub Fresh : Quoted → Type 0
+Fresh q = cond (eqb (q .count) 0) 0 (q .code) ≡ q .code
+
+pub added-fresh : (q : Quoted) (n code bytes strays : ℕ) (escaped : Bool) → Fresh (added q n code bytes strays escaped)
+unfolding added
+added-fresh q n code bytes strays escaped = rw (ne-eqb (q .count + 1) 0 (λ e. omega arith))
+
+-- what was read is no longer than the text before the place, and no more than two bytes of the value come of one
+abbrev pub Within : ℕ → Quoted → Type 0
+Within p q = (q .chars ≤ p) × (q .count ≤ p) × (q .strays ≤ p) × (q .bytes ≤ 2 * p) × Fresh q
+
+pub added-within : (p m : ℕ) (q : Quoted) (n code bytes strays : ℕ) (escaped : Bool) → Within p q → n ≤ m → 1 ≤ m → strays ≤ m → bytes ≤ 2 * m
+    → Within (p + m) (added q n code bytes strays escaped)
+unfolding added
+added-within p m q n code bytes strays escaped w a b c d = (omega arith, omega arith, omega arith, omega arith, added-fresh q n code bytes strays escaped)
+
+pub added-chars : (p m L : ℕ) (q : Quoted) (n code bytes strays : ℕ) (escaped : Bool) → Within p q → p + m ≤ L → n ≤ m → added q n code bytes strays escaped .chars ≤ L
+unfolding added
+added-chars p m L q n code bytes strays escaped w a b = omega arith
+
+-- so that no sum is too large where the text is shorter than half the numbers
+pub room-stop : (p L : ℕ) (q : Quoted) (n : ℕ) → Within p q → p + n ≤ L → L < 2 ^ 63 → q .chars + n < 2 ^ 64
+room-stop p L q n w a b = omega arith
+
+pub room-add : (p L m : ℕ) (q : Quoted) (n bytes strays : ℕ) → Within p q → p + m ≤ L → L < 2 ^ 63 → n ≤ m → 1 ≤ m → strays ≤ m → bytes ≤ 2 * m
+    → (q .chars + n < 2 ^ 64) × (q .count + 1 < 2 ^ 64) × (q .strays + strays < 2 ^ 64) × (q .bytes + bytes < 2 ^ 64)
+room-add p L m q n bytes strays w a b c d e f = (omega arith, omega arith, omega arith, omega arith)
+
+pub less : (p m L : ℕ) → p + m ≤ L → 1 ≤ m → L - (p + m) < L - p
+less p m L a b = omega arith
+
+pub next : (p L : ℕ) → p < L → p + 1 ≤ L
+next p L h = omega arith
+
+pub still : (p L : ℕ) → p ≤ L → p + 0 ≤ L
+still p L h = omega arith
+
+pub sooner : (p L : ℕ) → p < L → p ≤ L
+sooner p L h = omega arith
+
+pub one-le : (n : ℕ) → 1 ≤ n + 1
+one-le n = omega arith
+
+pub none-le : (n : ℕ) → 0 ≤ n
+none-le n = omega arith
+
+pub le-twice : (n : ℕ) → n ≤ 2 * n
+le-twice n = omega arith
+
+pub right-part : (p n L : ℕ) → p + n ≤ L → n ≤ L
+right-part p n L h = omega arith
+
+pub fit64 : (n L : ℕ) → n ≤ L → L < 2 ^ 63 → n < 2 ^ 64
+fit64 n L a b = omega arith
+
+-- at the start nothing was read
+pub joined-start : (at : ℕ) (x : Quoted)
+    → x ≡ joined (record { end = at; chars = 0; closed = false; error = 0; count = 0; code = 0; escaped = false; strays = 0; bytes = 0 }) x
+unfolding joined
+joined-start at x = rw (zero-add (x .chars), zero-add (x .count), zero-add (x .strays), zero-add (x .bytes))
+
+or-false : (b : Bool) → b || false ≡ b
+or-false true = refl
+or-false false = refl
+
+or-true : (b : Bool) → b || true ≡ true
+or-true true = refl
+or-true false = refl
+
+-- ---- the end
+pub joined-ends : (q : Quoted) (p n end : ℕ) (closed : Bool) (error : ℕ) (r : List Char) → Fresh q → p + widths (take n r) ≡ end
+    → stopped q end n closed error ≡ joined q (placed p r (ends n closed error))
+unfolding stopped joined placed
+joined-ends q p n end closed error r f e = rw (e, f, or-false (q .escaped), add-zero (q .count), add-zero (q .strays), add-zero (q .bytes))
+
+-- ---- one character more
+module _ (q : Quoted) (p : ℕ) (c : Char) (r : List Char) (b : Body) (fit : 2 * b .strays ≤ length (b .value)) where
+  pub joined-plain : length (encode (c .code)) ≡ c .width + 2 * cond (isStray c) 1 0
+      → joined q (placed p (c ∷ r) (plain c b)) ≡ joined (added q 1 (c .code) (c .width) (cond (isStray c) 1 0) false) (placed (p + c .width) r b)
+  unfolding added joined placed
+  joined-plain e =
+      let st : ℕ = cond (isStray c) 1 0 in
+      let e1 : p + (c .width + widths (take (b .len) r)) ≡ p + c .width + widths (take (b .len) r) = omega arith in
+      let e2 : q .chars + suc (b .len) ≡ q .chars + 1 + b .len = omega arith in
+      let e3 : q .count + suc (b .count) ≡ q .count + 1 + b .count = omega arith in
+      let e4 : cond (eqb (q .count) 0) (c .code) (q .code) ≡ cond (eqb (q .count + 1) 0) (b .code) (cond (eqb (q .count) 0) (c .code) (q .code)) =
+      rw (ne-eqb (q .count + 1) 0 (λ z. omega arith)) in
+      let e5 : q .strays + (st + b .strays) ≡ q .strays + st + b .strays = omega arith in
+      let e6 : q .bytes + (length (plain c b .value) - 2 * (st + b .strays)) ≡ q .bytes + c .width + (length (b .value) - 2 * b .strays) =
+      omega (arith, length-append (encode (c .code)) (b .value)) in
+      λ i. record { end = e1 i; chars = e2 i; closed = b .closed; error = b .error; count = e3 i; code = e4 i; escaped = q .escaped || b .escaped; strays = e5 i; bytes = e6 i }
+
+module _ (q : Quoted) (p : ℕ) (c : Char) (r : List Char) (n : ℕ) (b : Body) (fit : 2 * b .strays ≤ length (b .value)) where
+  pub joined-escape : c .width ≡ 1 → widths (take n r) ≡ n → (code : ℕ) (byte : Bool)
+      → joined q (placed p (c ∷ r) (escape (suc n) (Value code byte) b)) ≡ joined (added q (n + 1) code (length (bytesOf (Value code byte))) 0 true) (placed (p + (n + 1)) (drop n r) b)
+  unfolding added joined placed
+  joined-escape w e code byte =
+      let v = bytesOf (Value code byte) in
+      let e1 : p + widths (take (suc n + b .len) (c ∷ r)) ≡ p + (n + 1) + widths (take (b .len) (drop n r)) =
+      rw (suc-add n (b .len)) (omega (arith, widths-split n (b .len) r)) in
+      let e2 : q .chars + (suc n + b .len) ≡ q .chars + (n + 1) + b .len = omega arith in
+      let e3 : q .count + suc (b .count) ≡ q .count + 1 + b .count = omega arith in
+      let e4 : cond (eqb (q .count) 0) code (q .code) ≡ cond (eqb (q .count + 1) 0) (b .code) (cond (eqb (q .count) 0) code (q .code)) =
+      rw (ne-eqb (q .count + 1) 0 (λ z. omega arith)) in
+      let e5 : q .strays + b .strays ≡ q .strays + 0 + b .strays = omega arith in
+      let e6 : q .bytes + (length (escape (suc n) (Value code byte) b .value) - 2 * b .strays) ≡ q .bytes + length v + (length (b .value) - 2 * b .strays) =
+      omega (arith, length-append v (b .value)) in
+      let e7 : q .escaped || true ≡ true = or-true (q .escaped) in
+      λ i. record { end = e1 i; chars = e2 i; closed = b .closed; error = b .error; count = e3 i; code = e4 i; escaped = e7 i; strays = e5 i; bytes = e6 i }
+
+-- ---- a character at a place: a stray byte gives two bytes more than it has
+pub stray-there : (s : List ℕ) (p : ℕ) → p < length s → length (encode (firstChar (drop p s) .code)) ≡ firstChar (drop p s) .width + 2 * cond (isStray (firstChar (drop p s))) 1 0
+unfolding encode octets
+stray-there s p h =
+    let z : 0 < length (drop p s) = omega (arith, length-drop p s) in
+    let f = firstChar (drop p s) in
+    ⊎-elim
+    (λ (t : isStray f ≡ true). rw (first-stray (drop p s) z t))
+    (λ (t : isStray f ≡ false). rw (t, first-coded (drop p s) z t) (simp length-take (omega (arith, first-fits (drop p s) z))))
+    (either (isStray f))
+
+-- an escape ends within the text
+pub escape-fits : (quote : ℕ) (s : List ℕ) (p : ℕ) (x : Escaped) → p < length s → x ≡ escapeOf quote (chars (drop (p + 1) s)) → p + (x .len + 1) ≤ length s
+escape-fits quote s p x h e =
+    let r = drop (p + 1) s in
+    rw e (omega (arith, escape-bound quote (chars r), chars-le r, length-drop (p + 1) s))
+
+pub stray-most : (c : Char) (n : ℕ) → 1 ≤ n → cond (isStray c) 1 0 ≤ n
+stray-most c n h = cond-ind (λ (k : ℕ). k ≤ n) (isStray c) 1 0 (λ _. h) (λ _. omega arith)
+
+-- ---- one step at the place p
+module _ (quote : ℕ) (low : quote < 0x80) (s : List ℕ) (p : ℕ) (q : Quoted) where
+  pub step-end : Fresh q → length s ≤ p → stopped q p 0 false 8 ≡ joined q (quotedAt quote s p)
+  unfolding bodyFrom
+  step-end f h = rw (chars-end s p h) (joined-ends q p 0 p false 8 [] f (add-zero p))
+
+  module _ (h : p < length s) where
+    pub step-quote : Fresh q → getD s p 0 ≡ quote → stopped q (p + 1) 1 true 0 ≡ joined q (quotedAt quote s p)
+    unfolding bodyFrom
+    step-quote f e = rw (chars-ascii s p h (omega arith), eq-eqb _ _ e) (joined-ends q p 1 (p + 1) true 0 _ f refl)
+
+    module _ (no-quote : getD s p 0 ≡ quote → ⊥) where
+      pub step-lf : Fresh q → getD s p 0 ≡ 10 → stopped q p 0 false 8 ≡ joined q (quotedAt quote s p)
+      unfolding bodyFrom
+      step-lf f e = rw (chars-ascii s p h (omega arith), ne-eqb _ _ no-quote, eq-eqb _ _ e) (joined-ends q p 0 p false 8 _ f (add-zero p))
+
+      -- after a backslash
+      module _ (slash : getD s p 0 ≡ 92) (x : Escaped) (is : x ≡ escapeOf quote (chars (drop (p + 1) s))) where
+        slashed : quotedAt quote s p ≡ placed p (ascii 92 ∷ chars (drop (p + 1) s)) (escape (suc (x .len)) (x .given) (bodyFrom quote (x .len) (chars (drop (p + 1) s))))
+        unfolding bodyFrom
+        slashed = rw (chars-ascii s p h (omega arith), ne-eqb _ _ no-quote, is, slash)
+
+        widths-are : widths (take (x .len) (chars (drop (p + 1) s))) ≡ x .len
+        widths-are = rw is (escape-widths quote s (p + 1) low)
+
+        pub step-bad : (error : ℕ) → Fresh q → x .given ≡ Bad error → stopped q (p + (x .len + 1)) (x .len + 1) false error ≡ joined q (quotedAt quote s p)
+        step-bad error f g =
+            rw (slashed, g, add-one (x .len)) (joined-ends q p (suc (x .len)) (p + suc (x .len)) false error (ascii 92 ∷ chars (drop (p + 1) s)) f (omega (arith, widths-are)))
+
+        rest-is : drop (x .len) (chars (drop (p + 1) s)) ≡ chars (drop (p + (x .len + 1)) s)
+        rest-is =
+            let e : p + 1 + widths (take (x .len) (chars (drop (p + 1) s))) ≡ p + (x .len + 1) = omega (arith, widths-are) in
+            sym (rw e at (place-chars (x .len) s (p + 1)))
+
+        pub step-escape : (code : ℕ) (byte : Bool) → x .given ≡ Value code byte
+            → joined q (quotedAt quote s p) ≡ joined (added q (x .len + 1) code (length (bytesOf (Value code byte))) 0 true) (quotedAt quote s (p + (x .len + 1)))
+        step-escape code byte g =
+            let r = chars (drop (p + 1) s) in
+            rw (slashed, g)
+            (joined-escape q p (ascii 92) r (x .len) (bodyFrom quote (x .len) r) (strays-fit quote r (x .len)) refl widths-are code byte
+            ∙ rw (body-skip quote (x .len) r, rest-is))
+
+      module _ (no-lf : getD s p 0 ≡ 10 → ⊥) (no-slash : getD s p 0 ≡ 92 → ⊥) (c : Char) (e : c ≡ charAt s p) where
+        code-same : (x : ℕ) → x < 0x80 → (getD s p 0 ≡ x → ⊥) → eqb (c .code) x ≡ false
+        code-same x l n = ap (λ (y : Char). eqb (y .code) x) (e ∙ charAt-in s p h) ∙ code-there s p x h l ∙ ne-eqb _ _ n
+
+        pub step-plain : joined q (quotedAt quote s p) ≡ joined (added q 1 (c .code) (c .width) (cond (isStray c) 1 0) false) (quotedAt quote s (p + c .width))
+        unfolding bodyFrom
+        step-plain =
+            let r = chars (drop (p + c .width) s) in
+            rw (there-chars s p c h e, code-same quote low no-quote, code-same 10 (lit< tt) no-lf, code-same 92 (lit< tt) no-slash)
+            (joined-plain q p c r (body quote r) (strays-fit quote r 0) (rw (e ∙ charAt-in s p h) (stray-there s p h)))

@@ -1,0 +1,110 @@
+-- The value of a body without an escape: the bytes of its characters, where each stray byte gives three.
+use Prim.Native.Nat.{ℕ, zero, suc, _+_, _*_}
+use mathlib.Core.Path.{_≡_, refl, sym, ap, ap₂, _∙_}
+use mathlib.Core.Bool.{true, false, cond, true≢false, false≢true}
+use mathlib.Core.List.{List, [], _∷_, _++_}
+use mathlib.Core.Logic.{⊎-elim}
+use native.Mathlib.Omega.{arith}
+use native.Mathlib.Decide.{decLt}
+use lib.Dec.{eqb}
+use lib.ListN.{length, take, drop, length-append, length-drop}
+use lib.Seq.{take-add, drop-drop}
+use borrow.Author.Tests.{eqb-true}
+use Rattle.basics.proofs.Choice.{cond-ind, either}
+use Rattle.utf8.specs.declared.Char.{Char}
+use Rattle.utf8.specs.Chars.{firstChar, chars, isStray, widths, encode, encoded}
+use Rattle.utf8.proofs.First.{chars-at, chars-end}
+use Rattle.utf8.proofs.Encoding.{first-coded}
+use Rattle.quotes.specs.declared.Given.{Given}
+use Rattle.quotes.specs.declared.Given.the-variants.{Value, Bad}
+use Rattle.quotes.specs.Escape.{escapeOf}
+use Rattle.quotes.specs.Body.{Body, escape, bodyFrom, body}
+use Rattle.quotes.proofs.Heads.{Heads}
+use Rattle.quotes.proofs.Places.{stray-there}
+
+-- how many characters are stray bytes
+abbrev pub straysIn : List Char → ℕ
+straysIn [] = 0
+straysIn (c ∷ r) = cond (isStray c) 1 0 + straysIn r
+
+-- a body of characters that are written as themselves
+pub record Plain (quote : ℕ) (r : List Char) (b : Body) : Type 0 where
+  pub value : b .value ≡ encoded (take (b .count) r)
+  pub strays : b .strays ≡ straysIn (take (b .count) r)
+  -- the closing quote stands after them, and is read
+  pub closed : b .closed ≡ true → (b .len ≡ suc (b .count)) × Heads (λ c. c ≡ quote) 1 (drop (b .count) r)
+
+escape-plain : (quote : ℕ) (r : List Char) (n : ℕ) (g : Given) (b : Body) → escape n g b .escaped ≡ false → Plain quote r (escape n g b)
+escape-plain quote r n (Bad error) b h = record { value = refl; strays = refl; closed = λ e. absurd (false≢true e) }
+escape-plain quote r n (Value code byte) b h = absurd (true≢false h)
+
+pub body-plain : (quote : ℕ) (r : List Char) → body quote r .escaped ≡ false → Plain quote r (body quote r)
+unfolding bodyFrom
+body-plain quote [] = λ h. record { value = refl; strays = refl; closed = λ e. absurd (false≢true e) }
+body-plain quote (c ∷ r) =
+    cond-ind (λ (b : Body). b .escaped ≡ false → Plain quote (c ∷ r) b) (eqb (c .code) quote) _ _
+    (λ q h. record { value = refl; strays = refl; closed = λ e. (refl, (eqb-true (c .code) quote q, tt)) })
+    (λ _. cond-ind (λ (b : Body). b .escaped ≡ false → Plain quote (c ∷ r) b) (eqb (c .code) 10) _ _
+    (λ _ h. record { value = refl; strays = refl; closed = λ e. absurd (false≢true e) })
+    (λ _. cond-ind (λ (b : Body). b .escaped ≡ false → Plain quote (c ∷ r) b) (eqb (c .code) 92) _ _
+    (λ _ h. escape-plain quote (c ∷ r) _ (escapeOf quote r .given) _ h)
+    (λ _ h.
+    let i = body-plain quote r h in
+    record {
+      value = ap (λ l. encode (c .code) ++ l) (i .value);
+      strays = ap (λ n. cond (isStray c) 1 0 + n) (i .strays);
+      closed = λ e. (ap suc (i .closed e .0), i .closed e .1);
+    })))
+
+-- ---- the first k characters at a place
+-- as they are encoded they have two bytes more for each stray byte
+pub encoded-length : (k : ℕ) (s : List ℕ) (p : ℕ)
+    → length (encoded (take k (chars (drop p s)))) ≡ widths (take k (chars (drop p s))) + 2 * straysIn (take k (chars (drop p s)))
+encoded-length zero s p = refl
+encoded-length (suc k) s p =
+    elim (decLt p (length s)) [
+      | yes h ↦
+          let f = firstChar (drop p s) in
+          rw (chars-at s p h)
+          (omega (arith, length-append (encode (f .code)) (encoded (take k (chars (drop (p + f .width) s)))), stray-there s p h, encoded-length k s (p + f .width)))
+      | no h ↦ rw (chars-end s p (omega arith))
+    ]
+
+no-stray : (c : Char) (n : ℕ) → cond (isStray c) 1 0 + n ≡ 0 → (isStray c ≡ false) × (n ≡ 0)
+no-stray c n h =
+    ⊎-elim (λ (t : isStray c ≡ true). let g = rw t at h in absurd (omega arith)) (λ (t : isStray c ≡ false). let g = rw t at h in (t, omega arith)) (either (isStray c))
+
+-- without one they are the bytes that stand there
+pub encoded-shown : (k : ℕ) (s : List ℕ) (p : ℕ) → straysIn (take k (chars (drop p s))) ≡ 0
+    → encoded (take k (chars (drop p s))) ≡ take (widths (take k (chars (drop p s)))) (drop p s)
+encoded-shown zero s p z = refl
+encoded-shown (suc k) s p z =
+    elim (decLt p (length s)) [
+      | yes h ↦
+          let f = firstChar (drop p s) in
+          let r = chars (drop (p + f .width) s) in
+          let g = no-stray f (straysIn (take k r)) (rw (chars-at s p h) at z) in
+          rw (chars-at s p h)
+          (ap₂ _++_ (first-coded (drop p s) (omega (arith, length-drop p s)) (g .0))
+          (encoded-shown k s (p + f .width) (g .1) ∙ ap (take (widths (take k r))) (sym (drop-drop (f .width) p s)))
+          ∙ sym (take-add (f .width) (widths (take k r)) (drop p s)))
+      | no h ↦ rw (chars-end s p (omega arith))
+    ]
+
+-- ---- the value at a place, where there is no escape
+module _ (quote : ℕ) (s : List ℕ) (p : ℕ) (no-escape : body quote (chars (drop p s)) .escaped ≡ false) where
+  -- its length
+  pub value-length :
+      length (body quote (chars (drop p s)) .value) ≡ widths (take (body quote (chars (drop p s)) .count) (chars (drop p s))) + 2 * body quote (chars (drop p s)) .strays
+  value-length =
+      let r = chars (drop p s) in
+      let i = body-plain quote r no-escape in
+      rw (i .value, i .strays) (encoded-length (body quote r .count) s p)
+
+  -- without a stray byte it is the bytes of the text
+  pub value-shown : body quote (chars (drop p s)) .strays ≡ 0
+      → body quote (chars (drop p s)) .value ≡ take (widths (take (body quote (chars (drop p s)) .count) (chars (drop p s)))) (drop p s)
+  value-shown z =
+      let r = chars (drop p s) in
+      let i = body-plain quote r no-escape in
+      i .value ∙ encoded-shown (body quote r .count) s p (sym (i .strays) ∙ z)

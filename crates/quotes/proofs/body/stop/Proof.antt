@@ -1,0 +1,15 @@
+-- `quotes::body::stop` meets its contract: by its definition.
+use Rattle.quotes.specs.Steps.{stopped}
+use borrow.Author.Needs.{needs}
+use Rattle.quotes.proofs.body.stop.Statement.{statement}
+use Rattle.quotes.proofs.body.stop.Tie as tie
+
+add-t6 : tie.Need-add-t6
+add-t6 c = search needs
+
+returns : tie.Need-returns
+unfolding stopped
+returns c = search needs
+
+pub stop-spec : {M : Type 1} → statement M
+stop-spec = tie.close (tie.spec add-t6 returns)

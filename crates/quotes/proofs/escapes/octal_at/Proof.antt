@@ -1,0 +1,18 @@
+-- `quotes::escapes::octal_at` meets its contract: by those of its two calls.
+use Rattle.quotes.specs.Escape.{octalEscape}
+use borrow.Author.Needs.{needs}
+use Rattle.quotes.proofs.escapes.octal_at.Statement.{statement}
+use Rattle.quotes.proofs.escapes.octal_at.Tie as tie
+
+numeral-at-requires : tie.Need-numeral-at-requires
+numeral-at-requires c κs = search needs
+
+byte-of-requires : tie.Need-byte-of-requires
+byte-of-requires c κs = search needs
+
+returns : tie.Need-returns
+unfolding octalEscape
+returns c = rw (c .byte-of .ensures, c .before .numeral-at .ensures)
+
+pub octal-at-spec : {M : Type 1} → statement M
+octal-at-spec = tie.close (tie.spec numeral-at-requires byte-of-requires returns)

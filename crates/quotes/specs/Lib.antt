@@ -1,0 +1,5 @@
+pub mod Numeral
+pub mod Escape
+pub mod Body
+pub mod Steps
+pub mod Literal

@@ -1,0 +1,23 @@
+-- The digits of an escape.
+use Prim.Native.Nat.{ℕ, zero, suc, _+_, _*_}
+use mathlib.Core.Bool.{cond}
+use mathlib.Core.List.{List, [], _∷_}
+use lib.Dec.{ltb}
+use Rattle.utf8.specs.declared.Char.{Char}
+use Rattle.digits.specs.Digit.{digitVal}
+use Rattle.quotes.specs.declared.numeral.Numeral.{Numeral}
+
+-- no more digits are read
+abbrev pub stop : ℕ → ℕ → Numeral
+stop value error = record { value = value; len = 0; error = error }
+
+-- one digit before
+abbrev pub more : Numeral → Numeral
+more n = record { value = n .value; len = suc (n .len); error = n .error }
+
+-- exactly so many digits below the base, after digits of the value given: error 10 where the end cuts them, 11 where another character stands
+unfoldable pub numeral : ℕ → ℕ → ℕ → List Char → Numeral
+numeral base zero value r = stop value 0
+numeral base (suc n) value [] = stop value 10
+numeral base (suc n) value (c ∷ r) =
+    cond (ltb (digitVal (c .code)) base) (more (numeral base n (value * base + digitVal (c .code)) r)) (stop value 11)

@@ -1,0 +1,42 @@
+-- The body of a quoted literal as it is read: what one character adds to it, and how it ends.
+use Prim.Native.Nat.{ℕ, _+_}
+use mathlib.Core.Bool.{Bool, cond, _||_}
+use lib.Dec.{eqb}
+use Rattle.quotes.specs.declared.Given.{Given}
+use Rattle.quotes.specs.declared.Given.the-variants.{Value, Bad}
+use Rattle.quotes.specs.declared.Quoted.{Quoted}
+
+-- one character more, written in n characters
+unfoldable pub added : Quoted → ℕ → ℕ → ℕ → ℕ → Bool → Quoted
+added q n code bytes strays escaped =
+    record {
+      end = q .end;
+      chars = q .chars + n;
+      closed = q .closed;
+      error = q .error;
+      count = q .count + 1;
+      code = cond (eqb (q .count) 0) code (q .code);
+      escaped = escaped || q .escaped;
+      strays = q .strays + strays;
+      bytes = q .bytes + bytes;
+    }
+
+-- the end of the body, after n characters more
+unfoldable pub stopped : Quoted → ℕ → ℕ → Bool → ℕ → Quoted
+stopped q end n closed error =
+    record {
+      end = end;
+      chars = q .chars + n;
+      closed = closed;
+      error = error;
+      count = q .count;
+      code = q .code;
+      escaped = q .escaped;
+      strays = q .strays;
+      bytes = q .bytes;
+    }
+
+-- the error of an escape; 0 where it gives something
+abbrev pub errorOf : Given → ℕ
+errorOf (Value code byte) = 0
+errorOf (Bad error) = error

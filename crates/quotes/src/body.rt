@@ -1,0 +1,132 @@
+// The bodies of character literals and strings.
+use crate::Given;
+use crate::Quoted;
+use crate::escapes::escape_at;
+ghost use mathlib.Core.Path.{_≡_};
+ghost use mathlib.Core.Bool.{cond};
+ghost use Prim.Native.Nat.{_+_, _<_, _^_};
+ghost use lib.ListN.{length};
+ghost use Rattle.utf8.specs.Chars.{isStray};
+ghost use Rattle.quotes.specs.Escape.{bytesOf};
+ghost use Rattle.quotes.specs.declared.Given.the-variants.{Value};
+ghost use Rattle.quotes.specs.Body.{quotedAt};
+ghost use Rattle.quotes.specs.Steps.{added, stopped, errorOf};
+
+// One character more, written in n characters.
+fn add(q: Quoted, n: usize, code: u32, bytes: usize, strays: usize, escaped: bool) -> Quoted
+    requires { ⌜ (q .chars + n < 2 ^ 64) × (q .count + 1 < 2 ^ 64) × (q .strays + strays < 2 ^ 64) × (q .bytes + bytes < 2 ^ 64) ⌝ }
+    ensures { λ r. ⌜ r ≡ added q n code bytes strays escaped ⌝ }
+{
+    let first = q.count == 0;
+    Quoted {
+        end: q.end,
+        chars: q.chars + n,
+        closed: q.closed,
+        error: q.error,
+        count: q.count + 1,
+        code: if first { code } else { q.code },
+        escaped: escaped || q.escaped,
+        strays: q.strays + strays,
+        bytes: q.bytes + bytes,
+    }
+}
+
+// The end of the body, after n characters more.
+fn stop(q: Quoted, end: usize, n: usize, closed: bool, error: u8) -> Quoted
+    requires { ⌜ q .chars + n < 2 ^ 64 ⌝ }
+    ensures { λ r. ⌜ r ≡ stopped q end n closed error ⌝ }
+{
+    Quoted {
+        end,
+        chars: q.chars + n,
+        closed,
+        error,
+        count: q.count,
+        code: q.code,
+        escaped: q.escaped,
+        strays: q.strays,
+        bytes: q.bytes,
+    }
+}
+
+// The error of an escape, 0 where it gives something.
+fn error_of(given: Given) -> u8
+    ensures { λ r. ⌜ r ≡ errorOf given ⌝ }
+{
+    match given {
+        Given::Value { code: _, byte: _ } => 0,
+        Given::Bad { error } => error,
+    }
+}
+
+// How many bytes an escape gives to the value.
+fn given_len(code: u32, byte: bool) -> usize
+    ensures { λ r. ⌜ r ≡ length (bytesOf (Value code byte)) ⌝ }
+{
+    if byte { 1 } else { utf8::encoded_len(code) }
+}
+
+// Is a character a stray byte? 1 or 0.
+fn stray_count(c: utf8::Char) -> usize
+    ensures { λ r. ⌜ r ≡ cond (isStray c) 1 0 ⌝ }
+{
+    if utf8::is_stray(c) { 1 } else { 0 }
+}
+
+// The body at a place, closed by the quote given.
+fn body_at(src: &[u8], at: usize, quote: u8) -> Quoted
+    requires { ⌜ quote < 128 ⌝ }
+    ensures { λ r. ⌜ r ≡ quotedAt quote (now (src .entry)) at ⌝ }
+{
+    let mut q = Quoted {
+        end: at,
+        chars: 0,
+        closed: false,
+        error: 0,
+        count: 0,
+        code: 0,
+        escaped: false,
+        strays: 0,
+        bytes: 0,
+    };
+    let mut p = at;
+    while p < src.len() {
+        let b = src[p];
+        if b == quote {
+            return stop(q, p + 1, 1, true, 0);
+        }
+        if b == 10 {
+            return stop(q, p, 0, false, 8);
+        }
+        if b == 92 {
+            let e = escape_at(src, p + 1, quote);
+            let n = e.len + 1;
+            let given = e.given;
+            let Given::Value { code, byte } = given else {
+                return stop(q, p + n, n, false, error_of(given));
+            };
+            q = add(q, n, code, given_len(code, byte), 0, true);
+            p += n;
+        } else {
+            let c = utf8::char_at(src, p);
+            let width = c.width;
+            q = add(q, 1, c.code, width, stray_count(c), false);
+            p += width;
+        }
+    }
+    stop(q, p, 0, false, 8)
+}
+
+// The body of a string, from a place after its opening quote.
+pub fn string_body(src: &[u8], at: usize) -> Quoted
+    ensures { λ r. ⌜ r ≡ quotedAt 34 (now (src .entry)) at ⌝ }
+{
+    body_at(src, at, 34)
+}
+
+// The body of a character literal, from a place after its opening quote.
+pub fn char_body(src: &[u8], at: usize) -> Quoted
+    ensures { λ r. ⌜ r ≡ quotedAt 39 (now (src .entry)) at ⌝ }
+{
+    body_at(src, at, 39)
+}
