@@ -1,0 +1,33 @@
+-- Comments, from the opening slash on.
+use Prim.Native.Nat.{ℕ, _+_}
+use mathlib.Core.Bool.{Bool, true, false, cond, _&&_, _||_}
+use mathlib.Core.List.{List, [], _∷_, _++_}
+use lib.Dec.{eqb}
+use lib.ListN.{take, drop}
+use Rattle.utf8.specs.declared.Char.{Char}
+use Rattle.utf8.specs.Chars.{peek}
+use Rattle.token.specs.Kinds.{COMMENT}
+use Rattle.bodies.specs.Span.{Span, toStop, toStarSlash}
+use Rattle.bodies.specs.Body.{clean}
+use Rattle.bodies.specs.Line.{endsLine}
+use Rattle.lexer.specs.Lexeme.{Lexeme, shown, insertedSemicolon}
+
+-- "A `//` comment reads its LF, and its text always ends in LF."
+abbrev pub lineComment : Bool → List Char → Span → Lexeme
+lineComment mark r s = shown COMMENT (2 + s .len) (clean (take (2 + s .len) r) ++ cond (s .closed) [] (10 ∷ [])) 0 mark
+
+-- a general comment; not closed it is error 7
+abbrev pub generalComment : Bool → List Char → Span → Lexeme
+generalComment mark r s = shown COMMENT (2 + s .len) (clean (take (2 + s .len) r)) (cond (s .closed) 0 7) mark
+
+-- "It ends the line if it is `//`, .."
+abbrev pub commentEndsLine : List Char → Bool
+commentEndsLine r = eqb (peek (drop 1 r)) 47 || endsLine false (drop 2 r)
+
+-- "Otherwise COMMENT, the mark kept as it was."
+unfoldable pub comment : Bool → List Char → Lexeme
+comment mark r =
+    cond (eqb (peek (drop 1 r)) 47) (lineComment mark r (toStop 10 (drop 2 r))) (generalComment mark r (toStarSlash false (drop 2 r)))
+
+unfoldable pub lexComment : Bool → List Char → Lexeme
+lexComment mark r = cond (mark && commentEndsLine r) insertedSemicolon (comment mark r)

@@ -1,0 +1,55 @@
+-- What one scan reads, and nothing of where it stands.
+use Prim.Native.Nat.{ℕ, _+_}
+use mathlib.Core.Bool.{Bool, true, false}
+use mathlib.Core.List.{List, [], _∷_}
+use Rattle.token.specs.Kinds.{ILLEGAL, EOF, SEMICOLON, IDENT, INT, FLOAT, IMAG, CHAR, STRING, INC, DEC, RPAREN, RBRACK, RBRACE, BREAK, CONTINUE, FALLTHROUGH, RETURN}
+use Rattle.token.specs.Precedence.{among}
+
+pub record Lexeme : Type 0 where
+  -- blanks skipped before it, and characters read
+  pub skipped : ℕ
+  pub len : ℕ
+  pub kind : ℕ
+  -- a semicolon that does not stand in the text
+  pub inserted : Bool
+  -- text and value in bytes, and the code point of a CHAR
+  pub text : List ℕ
+  pub value : List ℕ
+  pub code : ℕ
+  -- the number of its error, or 0
+  pub error : ℕ
+  -- the pending mark that it leaves
+  pub mark : Bool
+
+-- a token with a text and no value
+abbrev pub shown : ℕ → ℕ → List ℕ → ℕ → Bool → Lexeme
+shown kind len text error mark =
+    record { skipped = 0; len = len; kind = kind; inserted = false; text = text; value = []; code = 0; error = error; mark = mark }
+
+-- "Operators, keywords and EOF have no text."
+abbrev pub bare : ℕ → ℕ → Bool → Lexeme
+bare kind len mark = shown kind len [] 0 mark
+
+-- "an inserted SEMICOLON, nothing read, mark cleared"
+abbrev pub insertedSemicolon : Lexeme
+insertedSemicolon =
+    record { skipped = 0; len = 0; kind = SEMICOLON; inserted = true; text = []; value = []; code = 0; error = 0; mark = false }
+
+-- n more blanks before it
+abbrev pub raise : ℕ → Lexeme → Lexeme
+raise n x =
+    record {
+      skipped = n + x .skipped;
+      len = x .len;
+      kind = x .kind;
+      inserted = x .inserted;
+      text = x .text;
+      value = x .value;
+      code = x .code;
+      error = x .error;
+      mark = x .mark;
+    }
+
+-- "The mark is set after IDENT, .. `++ -- ) ] }`, break, continue, fallthrough, return."
+abbrev pub setsMark : ℕ → Bool
+setsMark kind = among kind (IDENT ∷ INC ∷ DEC ∷ RPAREN ∷ RBRACK ∷ RBRACE ∷ BREAK ∷ CONTINUE ∷ FALLTHROUGH ∷ RETURN ∷ [])

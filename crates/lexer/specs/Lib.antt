@@ -1,0 +1,5 @@
+pub mod Lexeme
+pub mod Words
+pub mod Quotes
+pub mod Comments
+

@@ -1,0 +1,25 @@
+-- Words and numbers.
+use Prim.Native.Nat.{ℕ}
+use mathlib.Core.Bool.{Bool, true, cond}
+use mathlib.Core.List.{List, []}
+use lib.Dec.{eqb}
+use lib.ListN.{take}
+use Rattle.utf8.specs.declared.Char.{Char}
+use Rattle.utf8.specs.Chars.{encoded}
+use Rattle.token.specs.Kinds.{IDENT}
+use Rattle.token.specs.Table.{identToken}
+use Rattle.words.specs.Word.{wordLen}
+use Rattle.numbers.specs.Number.{number}
+use Rattle.numbers.specs.Spelling.{numberText}
+use Rattle.lexer.specs.Lexeme.{Lexeme, shown, bare, setsMark}
+
+-- "one of the 25 keywords, else IDENT"
+unfoldable pub wordOf : ℕ → List ℕ → Lexeme
+wordOf len word = cond (eqb (identToken word) IDENT) (shown IDENT len word 0 true) (bare (identToken word) len (setsMark (identToken word)))
+
+abbrev pub lexWord : List Char → Lexeme
+lexWord r = wordOf (wordLen r) (encoded (take (wordLen r) r))
+
+unfoldable pub lexNumber : List Char → Lexeme
+lexNumber r =
+    shown (number r .kind) (number r .len) (numberText (number r .spelling) (encoded (take (number r .len) r))) (number r .error) true

@@ -1,0 +1,1 @@
+// What one scan reads. So far its definition alone.
