@@ -10,14 +10,14 @@ use lib.Dec.{ltb, leb, eqb}
 use lib.ListN.{length, getD, take, drop, length-drop}
 use lib.Seq.{take-suc, getD-drop}
 use borrow.Author.Tests.{ltb-false, leb-true, le-leb, lt-leb, ne-eqb, not-true}
-use Rattle.basics.proofs.Choice.{cond-ind, and-split}
+use Rattle.basics.proofs.Choice.{and-split}
 use Rattle.basics.proofs.Lists.{drop-next}
 use Rattle.utf8.specs.declared.Char.{Char}
 use Rattle.utf8.specs.Chars.{charAt}
 use Rattle.bodies.specs.declared.body.Body.{Body}
 use Rattle.bodies.specs.Span.{Span, more, toStarSlash}
 use Rattle.bodies.specs.Body.{grown}
-use Rattle.bodies.specs.Plain.{special, anySpecial, plainBlock, skipped, overBlock}
+use Rattle.bodies.specs.Plain.{special, anySpecial, plainBlock}
 use Rattle.bodies.proofs.Bodies.{Reading, reading-next, grown-ascii, same-body, slash-more}
 
 or-split : (a b : Bool) → a || b ≡ false → (a ≡ false) × (b ≡ false)
@@ -57,6 +57,10 @@ module _ (x : ℕ) (s : List ℕ) (at : ℕ) where
       (leb-true (at + 16) (length s) (q .0), not-true _ (q .1))
 
 -- ---- a body that is read over plain bytes
+abbrev pub skipped : Body → ℕ → Body
+skipped b n =
+    record { end = b .end + n; chars = b .chars + n; closed = b .closed; lfs = b .lfs; crs = b .crs; strays = b .strays }
+
 -- one plain byte is a character that is no LF, no CR and no stray byte
 one-plain : (x : ℕ) (s : List ℕ) (b : Body) → b .end < length s → b .closed ≡ false → special x (getD s (b .end) 0) ≡ false → skipped b 1 ≡ grown b (charAt s (b .end)) false
 one-plain x s b h k e =
@@ -76,7 +80,7 @@ slash-on star k s p h e r = slash-more s p h r star (rw k) ∙ ap (λ t. more (t
 -- f goes on at a plain byte
 module _ (w : Body) (f : List Char → Span) (x : ℕ) (s : List ℕ)
     (on : (p : ℕ) → p < length s → eqb (getD s p 0) x ≡ false → (r : List Char) → f (charAt s p ∷ r) ≡ more (f r)) where
-  reading-plain : (n : ℕ) (b : Body) → b .end + n ≤ length s → anySpecial x (take n (drop (b .end) s)) ≡ false → Reading w f s b → Reading w f s (skipped b n)
+  pub reading-plain : (n : ℕ) (b : Body) → b .end + n ≤ length s → anySpecial x (take n (drop (b .end) s)) ≡ false → Reading w f s b → Reading w f s (skipped b n)
   reading-plain zero b h e i = rw (add-zero (b .end), add-zero (b .chars)) i
   reading-plain (suc n) b h e i =
       let l : b .end < length s = omega arith in
@@ -85,27 +89,3 @@ module _ (w : Body) (f : List Char → Span) (x : ℕ) (s : List ℕ)
       let j = reading-next w f s b i l (skipped b 1) false (one-plain x s b l (i .not-yet) (q .0)) refl f (on (b .end) l (k .1)) in
       let a : (m : ℕ) → m + 1 + n ≡ m + suc n = λ m. omega arith in
       rw (a (b .end), a (b .chars)) at (reading-plain n (skipped b 1) (omega arith) (q .1) j)
-
-  pub reading-block : (b a : Body) → a ≡ overBlock x s b → Reading w f s b → Reading w f s a
-  unfolding overBlock
-  reading-block b a e i =
-      rw e
-      (cond-ind (λ (y : Body). Reading w f s y) (plainBlock x s (b .end)) (skipped b 16) b
-      (λ k. let q = block-true x s (b .end) k in reading-plain 16 b (q .0) (q .1) i) (λ k. i))
-
-module _ (x : ℕ) (s : List ℕ) (b : Body) where
-  pub over-none : plainBlock x s (b .end) ≡ false → b ≡ overBlock x s b
-  unfolding overBlock
-  over-none e = rw e
-
-  pub over-some : plainBlock x s (b .end) ≡ true → skipped b 16 ≡ overBlock x s b
-  unfolding overBlock
-  over-some e = rw e
-
--- the body over a block ends no earlier, and within the text
-pub block-end : (x : ℕ) (s : List ℕ) (b a : Body) → a ≡ overBlock x s b → b .end ≤ length s → (b .end ≤ a .end) × (a .end ≤ length s)
-unfolding overBlock
-block-end x s b a e h =
-    rw e
-    (cond-ind (λ (y : Body). (b .end ≤ y .end) × (y .end ≤ length s)) (plainBlock x s (b .end)) (skipped b 16) b
-    (λ k. (omega arith, block-true x s (b .end) k .0)) (λ k. (omega arith, h)))

@@ -1,6 +1,6 @@
 -- Laws of what a body holds: a text behind does not change it, and what its last character adds.
 use Prim.Native.Nat.{ℕ, suc, _+_, _≤_, _<_}
-use mathlib.Core.Path.{_≡_, refl, sym, _∙_}
+use mathlib.Core.Path.{_≡_, sym}
 use mathlib.Core.Bool.{Bool}
 use mathlib.Core.List.{List, [], _∷_, _++_}
 use native.Mathlib.Nat.{add-zero, zero-add, add-assoc}
@@ -8,7 +8,6 @@ use lib.ListN.{length, getD, take}
 use lib.Seq.{take-suc, take-append-le}
 use Rattle.utf8.specs.declared.Char.{Char}
 use Rattle.utf8.specs.Chars.{ended, widths}
-use Rattle.bodies.specs.declared.body.Body.{Body}
 use Rattle.bodies.specs.Span.{Span}
 use Rattle.bodies.specs.Body.{one, count, bodyOf}
 

@@ -1,10 +1,9 @@
 -- Blocks of plain bytes, which a body is read over at once.
 use Prim.Native.Nat.{ℕ, _+_}
-use mathlib.Core.Bool.{Bool, false, cond, not, _&&_, _||_}
+use mathlib.Core.Bool.{Bool, false, not, _&&_, _||_}
 use mathlib.Core.List.{List, [], _∷_}
 use lib.Dec.{ltb, leb, eqb}
 use lib.ListN.{length, take, drop}
-use Rattle.bodies.specs.declared.body.Body.{Body}
 
 -- is a byte to be looked at by itself: an LF or CR (below 14), none of ASCII, or one at which the body may close
 abbrev pub special : ℕ → ℕ → Bool
@@ -17,12 +16,3 @@ anySpecial stop (b ∷ s) = special stop b || anySpecial stop s
 -- do 16 plain bytes stand at a place
 unfoldable pub plainBlock : ℕ → List ℕ → ℕ → Bool
 plainBlock stop s at = leb (at + 16) (length s) && not (anySpecial stop (take 16 (drop at s)))
-
--- a body with so many plain bytes more
-abbrev pub skipped : Body → ℕ → Body
-skipped b n =
-    record { end = b .end + n; chars = b .chars + n; closed = b .closed; lfs = b .lfs; crs = b .crs; strays = b .strays }
-
--- a body over a block of plain bytes, if one stands at its end
-unfoldable pub overBlock : ℕ → List ℕ → Body → Body
-overBlock stop s b = cond (plainBlock stop s (b .end)) (skipped b 16) b

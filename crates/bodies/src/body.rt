@@ -6,7 +6,6 @@ ghost use lib.ListN.{length, drop};
 ghost use Rattle.utf8.specs.Chars.{charAt, chars};
 ghost use Rattle.bodies.specs.Body.{one, emptyAt, grown, stopBody, rawBody, lineBody, blockBody};
 ghost use Rattle.bodies.specs.Counted.{Counted};
-ghost use Rattle.bodies.specs.Plain.{overBlock};
 
 // What is read of a body: where it ends, how many characters it has, whether its closing was read, and how many of its
 // characters are LFs, CRs and stray bytes.
@@ -68,39 +67,23 @@ fn grow(src: &[u8], body: Body, last: bool) -> Body
     }
 }
 
-// A body over a block of plain bytes, if one stands at its end.
-fn skip_block(src: &[u8], body: Body, stop: u8) -> Body
-    requires { ⌜ Counted body ⌝ }
-    ensures { λ r. ⌜ r ≡ overBlock stop (now (src .entry)) body ⌝ }
-{
-    let at = body.end;
-    if !plain::is_block(src, at, stop) {
-        return body;
-    }
-    Body {
-        end: at + 16,
-        chars: body.chars + 16,
-        closed: body.closed,
-        lfs: body.lfs,
-        crs: body.crs,
-        strays: body.strays,
-    }
-}
-
 // A body to the first ASCII character `stop`, or to the end.
 fn body_to(src: &[u8], at: usize, stop: u8) -> Body
     requires { ⌜ stop < 128 ⌝ }
     ensures { λ r. ⌜ r ≡ stopBody stop at (chars (drop at (now (src .entry)))) ⌝ }
 {
     let mut body = empty(at);
-    // from here on a block of plain bytes may start
+    // before this place no block of plain bytes is tried again
     let mut tried = at;
     while body.end < src.len() {
         let p = body.end;
         if tried <= p {
-            body = skip_block(src, body, stop);
+            if plain::is_block(src, p, stop) {
+                body.end = p + 16;
+                body.chars += 16;
+                continue;
+            }
             tried = p + 16;
-            continue;
         }
         let closes = src[p] == stop;
         body = grow(src, body, closes);
@@ -131,14 +114,17 @@ pub fn block_body(src: &[u8], at: usize) -> Body
 {
     let mut body = empty(at);
     let mut star = false;
-    // from here on a block of plain bytes may start
+    // before this place no block of plain bytes is tried again
     let mut tried = at;
     while body.end < src.len() {
         let p = body.end;
         if !star & (tried <= p) {
-            body = skip_block(src, body, 42);
+            if plain::is_block(src, p, 42) {
+                body.end = p + 16;
+                body.chars += 16;
+                continue;
+            }
             tried = p + 16;
-            continue;
         }
         let b = src[p];
         let closes = star & (b == 47);
