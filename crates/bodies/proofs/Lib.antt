@@ -2,7 +2,6 @@ pub mod Chars
 pub mod Bodies
 pub mod Blocks
 pub mod Lines
-pub mod Ends
 pub mod Spans
 pub mod LineEnds
 pub mod Counts

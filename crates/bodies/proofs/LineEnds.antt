@@ -6,7 +6,7 @@ use lib.Dec.{eqb}
 use borrow.Author.Tests.{eqb-false}
 use Rattle.utf8.specs.declared.Char.{Char}
 use Rattle.bodies.specs.Line.{isBlank, blankToEnd, endsLine}
-use Rattle.bodies.proofs.Ends.{Ends, ends-tail}
+use Rattle.utf8.proofs.Ends.{Ends, ends-tail}
 
 -- a search that leaves at the first line feed
 feed-cond : (c : Char) (r : List Char) (t : Bool) (x y : Bool) → eqb (c .code) 10 ≡ t → Ends (c ∷ r) → (Ends r → x ≡ y) → cond t true x ≡ cond t true y

@@ -11,7 +11,7 @@ use Rattle.basics.proofs.Choice.{and-split}
 use Rattle.utf8.specs.declared.Char.{Char}
 use Rattle.utf8.specs.Chars.{ended}
 use Rattle.bodies.specs.Span.{Span, unclosed, last, more, toStop, toStarSlash}
-use Rattle.bodies.proofs.Ends.{Ends, ends-tail, ends-more, ends-some}
+use Rattle.utf8.proofs.Ends.{Ends, ends-tail, ends-more, ends-some}
 
 pub record Spanned (r : List Char) (s : Span) : Type 0 where
   pub bound : s .len ≤ length r
