@@ -1,0 +1,297 @@
+-- `operators::scan_operator` meets its contract: an arm for each first code of the table; its rows are computed.
+use mathlib.Core.Path.{refl, _∙_}
+use Rattle.token.specs.Kinds.{ADD, ADD-ASSIGN, ASSIGN, COLON, COMMA, DEC, DEFINE, EQL, INC, LBRACE, LBRACK, LOR, LPAREN, MUL, MUL-ASSIGN, NEQ, NOT, OR, OR-ASSIGN, QUO, QUO-ASSIGN, RBRACE, RBRACK, REM, REM-ASSIGN, RPAREN, SEMICOLON, SUB, SUB-ASSIGN, XOR, XOR-ASSIGN}
+use Rattle.token.specs.Table.{operators}
+use Rattle.operators.proofs.Rows.{one-is, switch2-is, switch2-last-is, switch3-is, less-is, greater-is, and-is, period-is, none-is, end-is}
+use borrow.Author.Needs.{needs}
+use Rattle.operators.proofs.scan_operator.Statement.{statement}
+use Rattle.operators.proofs.scan_operator.Tie as tie
+
+op-requires : tie.Need-op-requires
+op-requires c κs = search needs
+
+returns : tie.Need-returns
+returns c = let a = c .before .before .before .args in c .op .ensures ∙ end-is (a .src .now) (a .at) (c .before .if1 .taken)
+
+shared-slice-read-a : tie.Need-shared-slice-read-a
+shared-slice-read-a c = search needs
+
+add-byte : tie.Need-add-byte
+add-byte c = search needs
+
+byte-requires : tie.Need-byte-requires
+byte-requires c κs = search needs
+
+scan-switch3-requires : tie.Need-scan-switch3-requires
+scan-switch3-requires c κs = search needs
+
+scan-switch3-requires-2 : tie.Need-scan-switch3-requires-2
+scan-switch3-requires-2 c κs = search needs
+
+scan-switch3-requires-3 : tie.Need-scan-switch3-requires-3
+scan-switch3-requires-3 c κs = search needs
+
+scan-switch2-requires : tie.Need-scan-switch2-requires
+scan-switch2-requires c κs = search needs
+
+scan-switch2-requires-2 : tie.Need-scan-switch2-requires-2
+scan-switch2-requires-2 c κs = search needs
+
+scan-switch2-requires-3 : tie.Need-scan-switch2-requires-3
+scan-switch2-requires-3 c κs = search needs
+
+scan-switch2-requires-4 : tie.Need-scan-switch2-requires-4
+scan-switch2-requires-4 c κs = search needs
+
+scan-switch2-requires-5 : tie.Need-scan-switch2-requires-5
+scan-switch2-requires-5 c κs = search needs
+
+scan-switch2-requires-6 : tie.Need-scan-switch2-requires-6
+scan-switch2-requires-6 c κs = search needs
+
+scan-switch2-requires-7 : tie.Need-scan-switch2-requires-7
+scan-switch2-requires-7 c κs = search needs
+
+add-scan-less : tie.Need-add-scan-less
+add-scan-less c = search needs
+
+scan-less-requires : tie.Need-scan-less-requires
+scan-less-requires c κs = search needs
+
+add-scan-greater : tie.Need-add-scan-greater
+add-scan-greater c = search needs
+
+scan-greater-requires : tie.Need-scan-greater-requires
+scan-greater-requires c κs = search needs
+
+add-scan-and : tie.Need-add-scan-and
+add-scan-and c = search needs
+
+scan-and-requires : tie.Need-scan-and-requires
+scan-and-requires c κs = search needs
+
+add-scan-period : tie.Need-add-scan-period
+add-scan-period c = search needs
+
+scan-period-requires : tie.Need-scan-period-requires
+scan-period-requires c κs = search needs
+
+op-requires-2 : tie.Need-op-requires-2
+op-requires-2 c κs = search needs
+
+op-requires-3 : tie.Need-op-requires-3
+op-requires-3 c κs = search needs
+
+op-requires-4 : tie.Need-op-requires-4
+op-requires-4 c κs = search needs
+
+op-requires-5 : tie.Need-op-requires-5
+op-requires-5 c κs = search needs
+
+op-requires-6 : tie.Need-op-requires-6
+op-requires-6 c κs = search needs
+
+op-requires-7 : tie.Need-op-requires-7
+op-requires-7 c κs = search needs
+
+op-requires-8 : tie.Need-op-requires-8
+op-requires-8 c κs = search needs
+
+op-requires-9 : tie.Need-op-requires-9
+op-requires-9 c κs = search needs
+
+op-requires-10 : tie.Need-op-requires-10
+op-requires-10 c κs = search needs
+
+returns-2 : tie.Need-returns-2
+unfolding operators
+returns-2 c =
+    let a = c .before .before .before .before .before .before .args in
+    c .scan-switch3 .ensures ∙ rw (c .before .before .byte .ensures) (switch3-is (a .src .now) (a .at) 43 (c .before .match .keys1) ADD ADD-ASSIGN INC 43 refl)
+
+returns-3 : tie.Need-returns-3
+unfolding operators
+returns-3 c =
+    let a = c .before .before .before .before .before .before .args in
+    c .scan-switch32 .ensures ∙ rw (c .before .before .byte .ensures) (switch3-is (a .src .now) (a .at) 45 (c .before .match .keys2) SUB SUB-ASSIGN DEC 45 refl)
+
+returns-4 : tie.Need-returns-4
+unfolding operators
+returns-4 c =
+    let a = c .before .before .before .before .before .before .args in
+    c .scan-switch33 .ensures ∙ rw (c .before .before .byte .ensures) (switch3-is (a .src .now) (a .at) 124 (c .before .match .keys3) OR OR-ASSIGN LOR 124 refl)
+
+returns-5 : tie.Need-returns-5
+unfolding operators
+returns-5 c =
+    let a = c .before .before .before .before .before .before .args in
+    c .scan-switch2 .ensures ∙ rw (c .before .before .byte .ensures) (switch2-is (a .src .now) (a .at) 42 (c .before .match .keys4) MUL MUL-ASSIGN refl)
+
+returns-6 : tie.Need-returns-6
+unfolding operators
+returns-6 c =
+    let a = c .before .before .before .before .before .before .args in
+    c .scan-switch22 .ensures ∙ rw (c .before .before .byte .ensures) (switch2-is (a .src .now) (a .at) 47 (c .before .match .keys5) QUO QUO-ASSIGN refl)
+
+returns-7 : tie.Need-returns-7
+unfolding operators
+returns-7 c =
+    let a = c .before .before .before .before .before .before .args in
+    c .scan-switch23 .ensures ∙ rw (c .before .before .byte .ensures) (switch2-is (a .src .now) (a .at) 37 (c .before .match .keys6) REM REM-ASSIGN refl)
+
+returns-8 : tie.Need-returns-8
+unfolding operators
+returns-8 c =
+    let a = c .before .before .before .before .before .before .args in
+    c .scan-switch24 .ensures ∙ rw (c .before .before .byte .ensures) (switch2-is (a .src .now) (a .at) 94 (c .before .match .keys7) XOR XOR-ASSIGN refl)
+
+returns-9 : tie.Need-returns-9
+unfolding operators
+returns-9 c =
+    let a = c .before .before .before .before .before .before .args in
+    c .scan-switch25 .ensures ∙ rw (c .before .before .byte .ensures) (switch2-is (a .src .now) (a .at) 33 (c .before .match .keys8) NOT NEQ refl)
+
+returns-10 : tie.Need-returns-10
+unfolding operators
+returns-10 c =
+    let a = c .before .before .before .before .before .before .args in
+    c .scan-switch26 .ensures ∙ rw (c .before .before .byte .ensures) (switch2-last-is (a .src .now) (a .at) 61 (c .before .match .keys9) ASSIGN EQL refl)
+
+returns-11 : tie.Need-returns-11
+unfolding operators
+returns-11 c =
+    let a = c .before .before .before .before .before .before .args in
+    c .scan-switch27 .ensures ∙ rw (c .before .before .byte .ensures) (switch2-last-is (a .src .now) (a .at) 58 (c .before .match .keys10) COLON DEFINE refl)
+
+returns-12 : tie.Need-returns-12
+returns-12 c =
+    let a = c .before .before .before .before .before .before .args in
+    c .scan-less .ensures ∙ less-is (a .src .now) (a .at) (c .before .match .keys11)
+
+returns-13 : tie.Need-returns-13
+returns-13 c =
+    let a = c .before .before .before .before .before .before .args in
+    c .scan-greater .ensures ∙ greater-is (a .src .now) (a .at) (c .before .match .keys12)
+
+returns-14 : tie.Need-returns-14
+returns-14 c =
+    let a = c .before .before .before .before .before .before .args in
+    c .scan-and .ensures ∙ and-is (a .src .now) (a .at) (c .before .match .keys13)
+
+returns-15 : tie.Need-returns-15
+returns-15 c =
+    let a = c .before .before .before .before .before .before .args in
+    c .scan-period .ensures ∙ period-is (a .src .now) (a .at) (c .before .match .keys14)
+
+returns-16 : tie.Need-returns-16
+unfolding operators
+returns-16 c =
+    let a = c .before .before .before .before .before .before .args in
+    c .op2 .ensures ∙ one-is (a .src .now) (a .at) 40 (c .before .match .keys15) LPAREN refl
+
+returns-17 : tie.Need-returns-17
+unfolding operators
+returns-17 c =
+    let a = c .before .before .before .before .before .before .args in
+    c .op3 .ensures ∙ one-is (a .src .now) (a .at) 91 (c .before .match .keys16) LBRACK refl
+
+returns-18 : tie.Need-returns-18
+unfolding operators
+returns-18 c =
+    let a = c .before .before .before .before .before .before .args in
+    c .op4 .ensures ∙ one-is (a .src .now) (a .at) 123 (c .before .match .keys17) LBRACE refl
+
+returns-19 : tie.Need-returns-19
+unfolding operators
+returns-19 c =
+    let a = c .before .before .before .before .before .before .args in
+    c .op5 .ensures ∙ one-is (a .src .now) (a .at) 44 (c .before .match .keys18) COMMA refl
+
+returns-20 : tie.Need-returns-20
+unfolding operators
+returns-20 c =
+    let a = c .before .before .before .before .before .before .args in
+    c .op6 .ensures ∙ one-is (a .src .now) (a .at) 41 (c .before .match .keys19) RPAREN refl
+
+returns-21 : tie.Need-returns-21
+unfolding operators
+returns-21 c =
+    let a = c .before .before .before .before .before .before .args in
+    c .op7 .ensures ∙ one-is (a .src .now) (a .at) 93 (c .before .match .keys20) RBRACK refl
+
+returns-22 : tie.Need-returns-22
+unfolding operators
+returns-22 c =
+    let a = c .before .before .before .before .before .before .args in
+    c .op8 .ensures ∙ one-is (a .src .now) (a .at) 125 (c .before .match .keys21) RBRACE refl
+
+returns-23 : tie.Need-returns-23
+unfolding operators
+returns-23 c =
+    let a = c .before .before .before .before .before .before .args in
+    c .op9 .ensures ∙ one-is (a .src .now) (a .at) 59 (c .before .match .keys22) SEMICOLON refl
+
+returns-24 : tie.Need-returns-24
+returns-24 c =
+    let a = c .before .before .before .before .before .before .args in
+    c .op10 .ensures ∙ none-is (a .src .now) (a .at) (c .before .match .rest)
+
+pub scan-operator-spec : {M : Type 1} → statement M
+scan-operator-spec =
+    tie.close
+    (tie.spec
+    op-requires
+    returns
+    shared-slice-read-a
+    add-byte
+    byte-requires
+    scan-switch3-requires
+    scan-switch3-requires-2
+    scan-switch3-requires-3
+    scan-switch2-requires
+    scan-switch2-requires-2
+    scan-switch2-requires-3
+    scan-switch2-requires-4
+    scan-switch2-requires-5
+    scan-switch2-requires-6
+    scan-switch2-requires-7
+    add-scan-less
+    scan-less-requires
+    add-scan-greater
+    scan-greater-requires
+    add-scan-and
+    scan-and-requires
+    add-scan-period
+    scan-period-requires
+    op-requires-2
+    op-requires-3
+    op-requires-4
+    op-requires-5
+    op-requires-6
+    op-requires-7
+    op-requires-8
+    op-requires-9
+    op-requires-10
+    returns-2
+    returns-3
+    returns-4
+    returns-5
+    returns-6
+    returns-7
+    returns-8
+    returns-9
+    returns-10
+    returns-11
+    returns-12
+    returns-13
+    returns-14
+    returns-15
+    returns-16
+    returns-17
+    returns-18
+    returns-19
+    returns-20
+    returns-21
+    returns-22
+    returns-23
+    returns-24)
