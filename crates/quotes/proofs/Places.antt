@@ -13,7 +13,7 @@ use borrow.Author.Tests.{eq-eqb, ne-eqb}
 use Rattle.basics.proofs.Choice.{cond-ind, either}
 use Rattle.utf8.specs.declared.Char.{Char}
 use Rattle.utf8.specs.Chars.{stray, octets, encode, firstChar, charAt, chars, isStray, widths}
-use Rattle.utf8.proofs.First.{ascii, charAt-in, chars-end, chars-ascii, chars-le, first-fits, there-chars}
+use Rattle.utf8.proofs.First.{ascii, charAt-in, charAt-ascii, chars-end, chars-ascii, chars-le, first-fits, there-chars}
 use Rattle.utf8.proofs.Places.{code-there, place-chars}
 use Rattle.utf8.proofs.Append.{first-stray}
 use Rattle.utf8.proofs.Encoding.{first-coded}
@@ -22,7 +22,7 @@ use Rattle.quotes.specs.declared.Escaped.{Escaped}
 use Rattle.quotes.specs.declared.Quoted.{Quoted}
 use Rattle.quotes.specs.Escape.{escapeOf, bytesOf}
 use Rattle.quotes.specs.Body.{Body, ends, plain, escape, bodyFrom, body, placed, quotedAt}
-use Rattle.quotes.specs.Steps.{added, stopped}
+use Rattle.quotes.specs.Steps.{nothing, added, stopped}
 use Rattle.quotes.proofs.Heads.{escape-bound, escape-widths}
 use Rattle.quotes.proofs.Bodies.{body-skip, widths-split, strays-fit}
 
@@ -94,12 +94,15 @@ le-twice n = omega arith
 pub right-part : (p n L : ℕ) → p + n ≤ L → n ≤ L
 right-part p n L h = omega arith
 
+pub fit32 : (n : ℕ) → n < 0x80 → n < 2 ^ 32
+fit32 n h = omega arith
+
 pub fit64 : (n L : ℕ) → n ≤ L → L < 2 ^ 63 → n < 2 ^ 64
 fit64 n L a b = omega arith
 
 -- at the start nothing was read
 pub joined-start : (at : ℕ) (x : Quoted)
-    → x ≡ joined (record { end = at; chars = 0; closed = false; error = 0; count = 0; code = 0; escaped = false; strays = 0; bytes = 0 }) x
+    → x ≡ joined (nothing at) x
 unfolding joined
 joined-start at x = rw (zero-add (x .chars), zero-add (x .count), zero-add (x .strays), zero-add (x .bytes))
 
@@ -214,13 +217,19 @@ module _ (quote : ℕ) (low : quote < 0x80) (s : List ℕ) (p : ℕ) (q : Quoted
             (joined-escape q p (ascii 92) r (x .len) (bodyFrom quote (x .len) r) (strays-fit quote r (x .len)) refl widths-are code byte
             ∙ rw (body-skip quote (x .len) r, rest-is))
 
-      module _ (no-lf : getD s p 0 ≡ 10 → ⊥) (no-slash : getD s p 0 ≡ 92 → ⊥) (c : Char) (e : c ≡ charAt s p) where
-        code-same : (x : ℕ) → x < 0x80 → (getD s p 0 ≡ x → ⊥) → eqb (c .code) x ≡ false
-        code-same x l n = ap (λ (y : Char). eqb (y .code) x) (e ∙ charAt-in s p h) ∙ code-there s p x h l ∙ ne-eqb _ _ n
+      module _ (no-lf : getD s p 0 ≡ 10 → ⊥) (no-slash : getD s p 0 ≡ 92 → ⊥) where
+        code-same : (c : Char) → c ≡ charAt s p → (x : ℕ) → x < 0x80 → (getD s p 0 ≡ x → ⊥) → eqb (c .code) x ≡ false
+        code-same c e x l n = ap (λ (y : Char). eqb (y .code) x) (e ∙ charAt-in s p h) ∙ code-there s p x h l ∙ ne-eqb _ _ n
 
-        pub step-plain : joined q (quotedAt quote s p) ≡ joined (added q 1 (c .code) (c .width) (cond (isStray c) 1 0) false) (quotedAt quote s (p + c .width))
+        pub step-plain : (c : Char) → c ≡ charAt s p
+            → joined q (quotedAt quote s p) ≡ joined (added q 1 (c .code) (c .width) (cond (isStray c) 1 0) false) (quotedAt quote s (p + c .width))
         unfolding bodyFrom
-        step-plain =
+        step-plain c e =
             let r = chars (drop (p + c .width) s) in
-            rw (there-chars s p c h e, code-same quote low no-quote, code-same 10 (lit< tt) no-lf, code-same 92 (lit< tt) no-slash)
+            rw (there-chars s p c h e, code-same c e quote low no-quote, code-same c e 10 (lit< tt) no-lf, code-same c e 92 (lit< tt) no-slash)
             (joined-plain q p c r (body quote r) (strays-fit quote r 0) (rw (e ∙ charAt-in s p h) (stray-there s p h)))
+
+        -- an ASCII byte is a character
+        pub step-ascii : getD s p 0 < 0x80 → joined q (quotedAt quote s p) ≡ joined (added q 1 (getD s p 0) 1 0 false) (quotedAt quote s (p + 1))
+        step-ascii l =
+            rw (ne-eqb (getD s p 0) 0xFFFD (λ e. omega arith)) at (step-plain (ascii (getD s p 0)) (sym (charAt-ascii s p h l)))
