@@ -2,8 +2,10 @@ pub mod Numerals
 pub mod EscapeLaws
 pub mod Heads
 pub mod Bodies
+pub mod Bounds
 pub mod Places
 pub mod Local
 pub mod Shown
 pub mod Shorter
 pub mod Counts
+pub mod Examples

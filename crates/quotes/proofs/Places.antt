@@ -1,5 +1,5 @@
 -- Laws of a body at a place of a text: what was read of it and what is left make the whole.
-use Prim.Native.Nat.{ℕ, suc, _+_, _*_, _-_, _^_, _≤_, _<_}
+use Prim.Native.Nat.{ℕ, suc, _+_, _*_, _-_, _≤_, _<_}
 use mathlib.Core.Path.{_≡_, refl, sym, ap, _∙_}
 use mathlib.Core.Bool.{Bool, true, false, cond, _||_}
 use mathlib.Core.List.{List, [], _∷_}
@@ -10,7 +10,7 @@ use native.Mathlib.Nat.{add-zero, zero-add, suc-add}
 use lib.Dec.{eqb, lit<}
 use lib.ListN.{length, getD, take, drop, length-append, length-drop, length-take}
 use borrow.Author.Tests.{eq-eqb, ne-eqb}
-use Rattle.basics.proofs.Choice.{cond-ind, either}
+use Rattle.basics.proofs.Choice.{either}
 use Rattle.utf8.specs.declared.Char.{Char}
 use Rattle.utf8.specs.Chars.{stray, octets, encode, firstChar, charAt, chars, isStray, widths}
 use Rattle.utf8.proofs.First.{ascii, charAt-in, charAt-ascii, chars-end, chars-ascii, chars-le, first-fits, there-chars}
@@ -23,6 +23,7 @@ use Rattle.quotes.specs.declared.Quoted.{Quoted}
 use Rattle.quotes.specs.Escape.{escapeOf, bytesOf}
 use Rattle.quotes.specs.Body.{Body, ends, plain, escape, bodyFrom, body, placed, quotedAt}
 use Rattle.quotes.specs.Steps.{nothing, added, stopped}
+use Rattle.quotes.proofs.Bounds.{Fresh}
 use Rattle.quotes.proofs.Heads.{escape-bound, escape-widths}
 use Rattle.quotes.proofs.Bodies.{body-skip, widths-split, strays-fit}
 
@@ -40,65 +41,6 @@ joined q x =
       strays = q .strays + x .strays;
       bytes = q .bytes + x .bytes;
     }
-
--- before the first character there is no code
-abbrev pub Fresh : Quoted → Type 0
-Fresh q = cond (eqb (q .count) 0) 0 (q .code) ≡ q .code
-
-pub added-fresh : (q : Quoted) (n code bytes strays : ℕ) (escaped : Bool) → Fresh (added q n code bytes strays escaped)
-unfolding added
-added-fresh q n code bytes strays escaped = rw (ne-eqb (q .count + 1) 0 (λ e. omega arith))
-
--- what was read is no longer than the text before the place, and no more than two bytes of the value come of one
-abbrev pub Within : ℕ → Quoted → Type 0
-Within p q = (q .chars ≤ p) × (q .count ≤ p) × (q .strays ≤ p) × (q .bytes ≤ 2 * p) × Fresh q
-
-pub added-within : (p m : ℕ) (q : Quoted) (n code bytes strays : ℕ) (escaped : Bool) → Within p q → n ≤ m → 1 ≤ m → strays ≤ m → bytes ≤ 2 * m
-    → Within (p + m) (added q n code bytes strays escaped)
-unfolding added
-added-within p m q n code bytes strays escaped w a b c d = (omega arith, omega arith, omega arith, omega arith, added-fresh q n code bytes strays escaped)
-
-pub added-chars : (p m L : ℕ) (q : Quoted) (n code bytes strays : ℕ) (escaped : Bool) → Within p q → p + m ≤ L → n ≤ m → added q n code bytes strays escaped .chars ≤ L
-unfolding added
-added-chars p m L q n code bytes strays escaped w a b = omega arith
-
--- so that no sum is too large where the text is shorter than half the numbers
-pub room-stop : (p L : ℕ) (q : Quoted) (n : ℕ) → Within p q → p + n ≤ L → L < 2 ^ 63 → q .chars + n < 2 ^ 64
-room-stop p L q n w a b = omega arith
-
-pub room-add : (p L m : ℕ) (q : Quoted) (n bytes strays : ℕ) → Within p q → p + m ≤ L → L < 2 ^ 63 → n ≤ m → 1 ≤ m → strays ≤ m → bytes ≤ 2 * m
-    → (q .chars + n < 2 ^ 64) × (q .count + 1 < 2 ^ 64) × (q .strays + strays < 2 ^ 64) × (q .bytes + bytes < 2 ^ 64)
-room-add p L m q n bytes strays w a b c d e f = (omega arith, omega arith, omega arith, omega arith)
-
-pub less : (p m L : ℕ) → p + m ≤ L → 1 ≤ m → L - (p + m) < L - p
-less p m L a b = omega arith
-
-pub next : (p L : ℕ) → p < L → p + 1 ≤ L
-next p L h = omega arith
-
-pub still : (p L : ℕ) → p ≤ L → p + 0 ≤ L
-still p L h = omega arith
-
-pub sooner : (p L : ℕ) → p < L → p ≤ L
-sooner p L h = omega arith
-
-pub one-le : (n : ℕ) → 1 ≤ n + 1
-one-le n = omega arith
-
-pub none-le : (n : ℕ) → 0 ≤ n
-none-le n = omega arith
-
-pub le-twice : (n : ℕ) → n ≤ 2 * n
-le-twice n = omega arith
-
-pub right-part : (p n L : ℕ) → p + n ≤ L → n ≤ L
-right-part p n L h = omega arith
-
-pub fit32 : (n : ℕ) → n < 0x80 → n < 2 ^ 32
-fit32 n h = omega arith
-
-pub fit64 : (n L : ℕ) → n ≤ L → L < 2 ^ 63 → n < 2 ^ 64
-fit64 n L a b = omega arith
 
 -- at the start nothing was read
 pub joined-start : (at : ℕ) (x : Quoted)
@@ -171,9 +113,6 @@ pub escape-fits : (quote : ℕ) (s : List ℕ) (p : ℕ) (x : Escaped) → p < l
 escape-fits quote s p x h e =
     let r = drop (p + 1) s in
     rw e (omega (arith, escape-bound quote (chars r), chars-le r, length-drop (p + 1) s))
-
-pub stray-most : (c : Char) (n : ℕ) → 1 ≤ n → cond (isStray c) 1 0 ≤ n
-stray-most c n h = cond-ind (λ (k : ℕ). k ≤ n) (isStray c) 1 0 (λ _. h) (λ _. omega arith)
 
 -- ---- one step at the place p
 module _ (quote : ℕ) (low : quote < 0x80) (s : List ℕ) (p : ℕ) (q : Quoted) where

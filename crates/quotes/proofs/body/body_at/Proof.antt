@@ -18,7 +18,8 @@ use Rattle.quotes.specs.Escape.{bytesOf}
 use Rattle.quotes.specs.Body.{quotedAt}
 use Rattle.quotes.specs.Steps.{errorOf}
 use Rattle.quotes.proofs.Bodies.{escape-gives}
-use Rattle.quotes.proofs.Places.{joined, Within, added-within, added-chars, room-stop, room-add, less, fit32, fit64, stray-most, next, still, sooner, one-le, none-le, le-twice, right-part, joined-start, escape-fits, step-end, step-quote, step-lf, step-bad, step-escape, step-plain, step-ascii}
+use Rattle.quotes.proofs.Bounds.{Within, added-within, added-chars, room-stop, room-add, less, fit32, fit64, stray-most, next, still, sooner, one-le, none-le, le-twice, right-part}
+use Rattle.quotes.proofs.Places.{joined, joined-start, escape-fits, step-end, step-quote, step-lf, step-bad, step-escape, step-plain, step-ascii}
 use Rattle.quotes.proofs.body.body_at.Statement.{statement}
 use Rattle.quotes.proofs.body.body_at.Tie as tie
 
