@@ -2,6 +2,7 @@ pub mod Numerals
 pub mod EscapeLaws
 pub mod Heads
 pub mod Bodies
+pub mod Reading
 pub mod Bounds
 pub mod Places
 pub mod Local

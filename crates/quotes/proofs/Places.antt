@@ -1,20 +1,19 @@
 -- Laws of a body at a place of a text: what was read of it and what is left make the whole.
 use Prim.Native.Nat.{ℕ, suc, _+_, _*_, _-_, _≤_, _<_}
-use mathlib.Core.Path.{_≡_, refl, sym, ap, _∙_}
+use mathlib.Core.Path.{_≡_, refl, sym, _∙_}
 use mathlib.Core.Bool.{Bool, true, false, cond, _||_}
 use mathlib.Core.List.{List, [], _∷_}
 use mathlib.Core.Logic.{⊎-elim}
 use native.Mathlib.Omega.{arith}
 use native.Mathlib.Numerals.{add-one}
 use native.Mathlib.Nat.{add-zero, zero-add, suc-add}
-use lib.Dec.{eqb, lit<}
+use lib.Dec.{eqb}
 use lib.ListN.{length, getD, take, drop, length-append, length-drop, length-take}
-use borrow.Author.Tests.{eq-eqb, ne-eqb}
+use borrow.Author.Tests.{ne-eqb}
 use Rattle.basics.proofs.Choice.{either}
 use Rattle.utf8.specs.declared.Char.{Char}
 use Rattle.utf8.specs.Chars.{stray, octets, encode, firstChar, charAt, chars, isStray, widths}
 use Rattle.utf8.proofs.First.{ascii, charAt-in, charAt-ascii, chars-end, chars-ascii, chars-le, first-fits, there-chars}
-use Rattle.utf8.proofs.Places.{code-there, place-chars}
 use Rattle.utf8.proofs.Append.{first-stray}
 use Rattle.utf8.proofs.Encoding.{first-coded}
 use Rattle.quotes.specs.declared.Given.the-variants.{Value, Bad}
@@ -23,9 +22,10 @@ use Rattle.quotes.specs.declared.Quoted.{Quoted}
 use Rattle.quotes.specs.Escape.{escapeOf, bytesOf}
 use Rattle.quotes.specs.Body.{Body, ends, plain, escape, bodyFrom, body, placed, quotedAt}
 use Rattle.quotes.specs.Steps.{nothing, added, stopped}
+use Rattle.quotes.proofs.Reading.{escape-rest, at-quote, at-lf, at-slash, at-plain}
 use Rattle.quotes.proofs.Bounds.{Fresh}
 use Rattle.quotes.proofs.Heads.{escape-bound, escape-widths}
-use Rattle.quotes.proofs.Bodies.{body-skip, widths-split, strays-fit}
+use Rattle.quotes.proofs.Bodies.{widths-split, strays-fit}
 
 -- what was read, and the rest
 unfoldable pub joined : Quoted → Quoted → Quoted
@@ -122,50 +122,37 @@ module _ (quote : ℕ) (low : quote < 0x80) (s : List ℕ) (p : ℕ) (q : Quoted
 
   module _ (h : p < length s) where
     pub step-quote : Fresh q → getD s p 0 ≡ quote → stopped q (p + 1) 1 true 0 ≡ joined q (quotedAt quote s p)
-    unfolding bodyFrom
-    step-quote f e = rw (chars-ascii s p h (omega arith), eq-eqb _ _ e) (joined-ends q p 1 (p + 1) true 0 _ f refl)
+    step-quote f e = rw (at-quote quote low s p h e, chars-ascii s p h (omega arith)) (joined-ends q p 1 (p + 1) true 0 _ f refl)
 
     module _ (no-quote : getD s p 0 ≡ quote → ⊥) where
       pub step-lf : Fresh q → getD s p 0 ≡ 10 → stopped q p 0 false 8 ≡ joined q (quotedAt quote s p)
-      unfolding bodyFrom
-      step-lf f e = rw (chars-ascii s p h (omega arith), ne-eqb _ _ no-quote, eq-eqb _ _ e) (joined-ends q p 0 p false 8 _ f (add-zero p))
+      step-lf f e = rw (at-lf quote low s p h no-quote e) (joined-ends q p 0 p false 8 _ f (add-zero p))
 
       -- after a backslash
       module _ (slash : getD s p 0 ≡ 92) (x : Escaped) (is : x ≡ escapeOf quote (chars (drop (p + 1) s))) where
-        slashed : quotedAt quote s p ≡ placed p (ascii 92 ∷ chars (drop (p + 1) s)) (escape (suc (x .len)) (x .given) (bodyFrom quote (x .len) (chars (drop (p + 1) s))))
-        unfolding bodyFrom
-        slashed = rw (chars-ascii s p h (omega arith), ne-eqb _ _ no-quote, is, slash)
+        first-is : chars (drop p s) ≡ ascii (getD s p 0) ∷ chars (drop (p + 1) s)
+        first-is = chars-ascii s p h (omega arith)
 
         widths-are : widths (take (x .len) (chars (drop (p + 1) s))) ≡ x .len
         widths-are = rw is (escape-widths quote s (p + 1) low)
 
         pub step-bad : (error : ℕ) → Fresh q → x .given ≡ Bad error → stopped q (p + (x .len + 1)) (x .len + 1) false error ≡ joined q (quotedAt quote s p)
         step-bad error f g =
-            rw (slashed, g, add-one (x .len)) (joined-ends q p (suc (x .len)) (p + suc (x .len)) false error (ascii 92 ∷ chars (drop (p + 1) s)) f (omega (arith, widths-are)))
-
-        rest-is : drop (x .len) (chars (drop (p + 1) s)) ≡ chars (drop (p + (x .len + 1)) s)
-        rest-is =
-            let e : p + 1 + widths (take (x .len) (chars (drop (p + 1) s))) ≡ p + (x .len + 1) = omega (arith, widths-are) in
-            sym (rw e at (place-chars (x .len) s (p + 1)))
+            rw (at-slash quote low s p h no-quote slash x is, g, first-is, add-one (x .len))
+            (joined-ends q p (suc (x .len)) (p + suc (x .len)) false error (ascii (getD s p 0) ∷ chars (drop (p + 1) s)) f (omega (arith, widths-are)))
 
         pub step-escape : (code : ℕ) (byte : Bool) → x .given ≡ Value code byte
             → joined q (quotedAt quote s p) ≡ joined (added q (x .len + 1) code (length (bytesOf (Value code byte))) 0 true) (quotedAt quote s (p + (x .len + 1)))
         step-escape code byte g =
-            let r = chars (drop (p + 1) s) in
-            rw (slashed, g)
-            (joined-escape q p (ascii 92) r (x .len) (bodyFrom quote (x .len) r) (strays-fit quote r (x .len)) refl widths-are code byte
-            ∙ rw (body-skip quote (x .len) r, rest-is))
+            rw (at-slash quote low s p h no-quote slash x is, g, first-is, ← escape-rest quote low s p x is)
+            (joined-escape q p (ascii (getD s p 0)) (chars (drop (p + 1) s)) (x .len) _ (strays-fit quote _ 0) refl widths-are code byte)
 
       module _ (no-lf : getD s p 0 ≡ 10 → ⊥) (no-slash : getD s p 0 ≡ 92 → ⊥) where
-        code-same : (c : Char) → c ≡ charAt s p → (x : ℕ) → x < 0x80 → (getD s p 0 ≡ x → ⊥) → eqb (c .code) x ≡ false
-        code-same c e x l n = ap (λ (y : Char). eqb (y .code) x) (e ∙ charAt-in s p h) ∙ code-there s p x h l ∙ ne-eqb _ _ n
-
         pub step-plain : (c : Char) → c ≡ charAt s p
             → joined q (quotedAt quote s p) ≡ joined (added q 1 (c .code) (c .width) (cond (isStray c) 1 0) false) (quotedAt quote s (p + c .width))
-        unfolding bodyFrom
         step-plain c e =
             let r = chars (drop (p + c .width) s) in
-            rw (there-chars s p c h e, code-same c e quote low no-quote, code-same c e 10 (lit< tt) no-lf, code-same c e 92 (lit< tt) no-slash)
+            rw (at-plain quote low s p h no-quote no-lf no-slash c e, there-chars s p c h e)
             (joined-plain q p c r (body quote r) (strays-fit quote r 0) (rw (e ∙ charAt-in s p h) (stray-there s p h)))
 
         -- an ASCII byte is a character
