@@ -26,6 +26,7 @@ use Rattle.quotes.specs.Escape.{escapeOf, bytesOf}
 use Rattle.quotes.specs.Body.{Body, ends, plain, escape, bodyFrom, body}
 use Rattle.quotes.proofs.Heads.{Heads, heads-bound, heads-at, escape-heads, escape-widths}
 use Rattle.quotes.proofs.Bodies.{body-skip, widths-split}
+use Rattle.quotes.proofs.Reading.{escape-rest}
 use Rattle.quotes.proofs.Places.{stray-there}
 use Rattle.quotes.proofs.Shown.{body-plain, value-shown}
 use Rattle.quotes.proofs.Shorter.{escape-shorter}
@@ -147,9 +148,8 @@ module _ (quote : ℕ) (low : quote < 0x80) (s : List ℕ) where
 
   rest-is : (p : ℕ) → drop (escapeOf quote (chars (drop (p + 1) s)) .len) (chars (drop (p + 1) s)) ≡ chars (drop (p + suc (escapeOf quote (chars (drop (p + 1) s)) .len)) s)
   rest-is p =
-      let n = escapeOf quote (chars (drop (p + 1) s)) .len in
-      let e : p + 1 + widths (take n (chars (drop (p + 1) s))) ≡ p + suc n = omega (arith, escape-widths quote s (p + 1) low) in
-      sym (rw e at (place-chars n s (p + 1)))
+      let x = escapeOf quote (chars (drop (p + 1) s)) in
+      escape-rest quote low s p x refl ∙ ap (λ n. chars (drop (p + n) s)) (add-one (x .len))
 
   abbrev At : ℕ → Type 0
   At p = body quote (chars (drop p s)) .closed ≡ true → Counted s p (chars (drop p s)) (body quote (chars (drop p s)))

@@ -2,8 +2,11 @@ pub mod Numerals
 pub mod EscapeLaws
 pub mod Heads
 pub mod Bodies
+pub mod Reading
+pub mod Bounds
 pub mod Places
 pub mod Local
 pub mod Shown
 pub mod Shorter
 pub mod Counts
+pub mod Examples

@@ -1,20 +1,19 @@
 -- Laws of a body at a place of a text: what was read of it and what is left make the whole.
-use Prim.Native.Nat.{ℕ, suc, _+_, _*_, _-_, _^_, _≤_, _<_}
-use mathlib.Core.Path.{_≡_, refl, sym, ap, _∙_}
+use Prim.Native.Nat.{ℕ, suc, _+_, _*_, _-_, _≤_, _<_}
+use mathlib.Core.Path.{_≡_, refl, sym, _∙_}
 use mathlib.Core.Bool.{Bool, true, false, cond, _||_}
 use mathlib.Core.List.{List, [], _∷_}
 use mathlib.Core.Logic.{⊎-elim}
 use native.Mathlib.Omega.{arith}
 use native.Mathlib.Numerals.{add-one}
 use native.Mathlib.Nat.{add-zero, zero-add, suc-add}
-use lib.Dec.{eqb, lit<}
+use lib.Dec.{eqb}
 use lib.ListN.{length, getD, take, drop, length-append, length-drop, length-take}
-use borrow.Author.Tests.{eq-eqb, ne-eqb}
-use Rattle.basics.proofs.Choice.{cond-ind, either}
+use borrow.Author.Tests.{ne-eqb}
+use Rattle.basics.proofs.Choice.{either}
 use Rattle.utf8.specs.declared.Char.{Char}
 use Rattle.utf8.specs.Chars.{stray, octets, encode, firstChar, charAt, chars, isStray, widths}
-use Rattle.utf8.proofs.First.{ascii, charAt-in, chars-end, chars-ascii, chars-le, first-fits, there-chars}
-use Rattle.utf8.proofs.Places.{code-there, place-chars}
+use Rattle.utf8.proofs.First.{ascii, charAt-in, charAt-ascii, chars-end, chars-ascii, chars-le, first-fits, there-chars}
 use Rattle.utf8.proofs.Append.{first-stray}
 use Rattle.utf8.proofs.Encoding.{first-coded}
 use Rattle.quotes.specs.declared.Given.the-variants.{Value, Bad}
@@ -22,9 +21,11 @@ use Rattle.quotes.specs.declared.Escaped.{Escaped}
 use Rattle.quotes.specs.declared.Quoted.{Quoted}
 use Rattle.quotes.specs.Escape.{escapeOf, bytesOf}
 use Rattle.quotes.specs.Body.{Body, ends, plain, escape, bodyFrom, body, placed, quotedAt}
-use Rattle.quotes.specs.Steps.{added, stopped}
+use Rattle.quotes.specs.Steps.{nothing, added, stopped}
+use Rattle.quotes.proofs.Reading.{escape-rest, at-quote, at-lf, at-slash, at-plain}
+use Rattle.quotes.proofs.Bounds.{Fresh}
 use Rattle.quotes.proofs.Heads.{escape-bound, escape-widths}
-use Rattle.quotes.proofs.Bodies.{body-skip, widths-split, strays-fit}
+use Rattle.quotes.proofs.Bodies.{widths-split, strays-fit}
 
 -- what was read, and the rest
 unfoldable pub joined : Quoted → Quoted → Quoted
@@ -41,65 +42,9 @@ joined q x =
       bytes = q .bytes + x .bytes;
     }
 
--- before the first character there is no code
-abbrev pub Fresh : Quoted → Type 0
-Fresh q = cond (eqb (q .count) 0) 0 (q .code) ≡ q .code
-
-pub added-fresh : (q : Quoted) (n code bytes strays : ℕ) (escaped : Bool) → Fresh (added q n code bytes strays escaped)
-unfolding added
-added-fresh q n code bytes strays escaped = rw (ne-eqb (q .count + 1) 0 (λ e. omega arith))
-
--- what was read is no longer than the text before the place, and no more than two bytes of the value come of one
-abbrev pub Within : ℕ → Quoted → Type 0
-Within p q = (q .chars ≤ p) × (q .count ≤ p) × (q .strays ≤ p) × (q .bytes ≤ 2 * p) × Fresh q
-
-pub added-within : (p m : ℕ) (q : Quoted) (n code bytes strays : ℕ) (escaped : Bool) → Within p q → n ≤ m → 1 ≤ m → strays ≤ m → bytes ≤ 2 * m
-    → Within (p + m) (added q n code bytes strays escaped)
-unfolding added
-added-within p m q n code bytes strays escaped w a b c d = (omega arith, omega arith, omega arith, omega arith, added-fresh q n code bytes strays escaped)
-
-pub added-chars : (p m L : ℕ) (q : Quoted) (n code bytes strays : ℕ) (escaped : Bool) → Within p q → p + m ≤ L → n ≤ m → added q n code bytes strays escaped .chars ≤ L
-unfolding added
-added-chars p m L q n code bytes strays escaped w a b = omega arith
-
--- so that no sum is too large where the text is shorter than half the numbers
-pub room-stop : (p L : ℕ) (q : Quoted) (n : ℕ) → Within p q → p + n ≤ L → L < 2 ^ 63 → q .chars + n < 2 ^ 64
-room-stop p L q n w a b = omega arith
-
-pub room-add : (p L m : ℕ) (q : Quoted) (n bytes strays : ℕ) → Within p q → p + m ≤ L → L < 2 ^ 63 → n ≤ m → 1 ≤ m → strays ≤ m → bytes ≤ 2 * m
-    → (q .chars + n < 2 ^ 64) × (q .count + 1 < 2 ^ 64) × (q .strays + strays < 2 ^ 64) × (q .bytes + bytes < 2 ^ 64)
-room-add p L m q n bytes strays w a b c d e f = (omega arith, omega arith, omega arith, omega arith)
-
-pub less : (p m L : ℕ) → p + m ≤ L → 1 ≤ m → L - (p + m) < L - p
-less p m L a b = omega arith
-
-pub next : (p L : ℕ) → p < L → p + 1 ≤ L
-next p L h = omega arith
-
-pub still : (p L : ℕ) → p ≤ L → p + 0 ≤ L
-still p L h = omega arith
-
-pub sooner : (p L : ℕ) → p < L → p ≤ L
-sooner p L h = omega arith
-
-pub one-le : (n : ℕ) → 1 ≤ n + 1
-one-le n = omega arith
-
-pub none-le : (n : ℕ) → 0 ≤ n
-none-le n = omega arith
-
-pub le-twice : (n : ℕ) → n ≤ 2 * n
-le-twice n = omega arith
-
-pub right-part : (p n L : ℕ) → p + n ≤ L → n ≤ L
-right-part p n L h = omega arith
-
-pub fit64 : (n L : ℕ) → n ≤ L → L < 2 ^ 63 → n < 2 ^ 64
-fit64 n L a b = omega arith
-
 -- at the start nothing was read
 pub joined-start : (at : ℕ) (x : Quoted)
-    → x ≡ joined (record { end = at; chars = 0; closed = false; error = 0; count = 0; code = 0; escaped = false; strays = 0; bytes = 0 }) x
+    → x ≡ joined (nothing at) x
 unfolding joined
 joined-start at x = rw (zero-add (x .chars), zero-add (x .count), zero-add (x .strays), zero-add (x .bytes))
 
@@ -169,9 +114,6 @@ escape-fits quote s p x h e =
     let r = drop (p + 1) s in
     rw e (omega (arith, escape-bound quote (chars r), chars-le r, length-drop (p + 1) s))
 
-pub stray-most : (c : Char) (n : ℕ) → 1 ≤ n → cond (isStray c) 1 0 ≤ n
-stray-most c n h = cond-ind (λ (k : ℕ). k ≤ n) (isStray c) 1 0 (λ _. h) (λ _. omega arith)
-
 -- ---- one step at the place p
 module _ (quote : ℕ) (low : quote < 0x80) (s : List ℕ) (p : ℕ) (q : Quoted) where
   pub step-end : Fresh q → length s ≤ p → stopped q p 0 false 8 ≡ joined q (quotedAt quote s p)
@@ -180,47 +122,40 @@ module _ (quote : ℕ) (low : quote < 0x80) (s : List ℕ) (p : ℕ) (q : Quoted
 
   module _ (h : p < length s) where
     pub step-quote : Fresh q → getD s p 0 ≡ quote → stopped q (p + 1) 1 true 0 ≡ joined q (quotedAt quote s p)
-    unfolding bodyFrom
-    step-quote f e = rw (chars-ascii s p h (omega arith), eq-eqb _ _ e) (joined-ends q p 1 (p + 1) true 0 _ f refl)
+    step-quote f e = rw (at-quote quote low s p h e, chars-ascii s p h (omega arith)) (joined-ends q p 1 (p + 1) true 0 _ f refl)
 
     module _ (no-quote : getD s p 0 ≡ quote → ⊥) where
       pub step-lf : Fresh q → getD s p 0 ≡ 10 → stopped q p 0 false 8 ≡ joined q (quotedAt quote s p)
-      unfolding bodyFrom
-      step-lf f e = rw (chars-ascii s p h (omega arith), ne-eqb _ _ no-quote, eq-eqb _ _ e) (joined-ends q p 0 p false 8 _ f (add-zero p))
+      step-lf f e = rw (at-lf quote low s p h no-quote e) (joined-ends q p 0 p false 8 _ f (add-zero p))
 
       -- after a backslash
       module _ (slash : getD s p 0 ≡ 92) (x : Escaped) (is : x ≡ escapeOf quote (chars (drop (p + 1) s))) where
-        slashed : quotedAt quote s p ≡ placed p (ascii 92 ∷ chars (drop (p + 1) s)) (escape (suc (x .len)) (x .given) (bodyFrom quote (x .len) (chars (drop (p + 1) s))))
-        unfolding bodyFrom
-        slashed = rw (chars-ascii s p h (omega arith), ne-eqb _ _ no-quote, is, slash)
+        first-is : chars (drop p s) ≡ ascii (getD s p 0) ∷ chars (drop (p + 1) s)
+        first-is = chars-ascii s p h (omega arith)
 
         widths-are : widths (take (x .len) (chars (drop (p + 1) s))) ≡ x .len
         widths-are = rw is (escape-widths quote s (p + 1) low)
 
         pub step-bad : (error : ℕ) → Fresh q → x .given ≡ Bad error → stopped q (p + (x .len + 1)) (x .len + 1) false error ≡ joined q (quotedAt quote s p)
         step-bad error f g =
-            rw (slashed, g, add-one (x .len)) (joined-ends q p (suc (x .len)) (p + suc (x .len)) false error (ascii 92 ∷ chars (drop (p + 1) s)) f (omega (arith, widths-are)))
-
-        rest-is : drop (x .len) (chars (drop (p + 1) s)) ≡ chars (drop (p + (x .len + 1)) s)
-        rest-is =
-            let e : p + 1 + widths (take (x .len) (chars (drop (p + 1) s))) ≡ p + (x .len + 1) = omega (arith, widths-are) in
-            sym (rw e at (place-chars (x .len) s (p + 1)))
+            rw (at-slash quote low s p h no-quote slash x is, g, first-is, add-one (x .len))
+            (joined-ends q p (suc (x .len)) (p + suc (x .len)) false error (ascii (getD s p 0) ∷ chars (drop (p + 1) s)) f (omega (arith, widths-are)))
 
         pub step-escape : (code : ℕ) (byte : Bool) → x .given ≡ Value code byte
             → joined q (quotedAt quote s p) ≡ joined (added q (x .len + 1) code (length (bytesOf (Value code byte))) 0 true) (quotedAt quote s (p + (x .len + 1)))
         step-escape code byte g =
-            let r = chars (drop (p + 1) s) in
-            rw (slashed, g)
-            (joined-escape q p (ascii 92) r (x .len) (bodyFrom quote (x .len) r) (strays-fit quote r (x .len)) refl widths-are code byte
-            ∙ rw (body-skip quote (x .len) r, rest-is))
+            rw (at-slash quote low s p h no-quote slash x is, g, first-is, ← escape-rest quote low s p x is)
+            (joined-escape q p (ascii (getD s p 0)) (chars (drop (p + 1) s)) (x .len) _ (strays-fit quote _ 0) refl widths-are code byte)
 
-      module _ (no-lf : getD s p 0 ≡ 10 → ⊥) (no-slash : getD s p 0 ≡ 92 → ⊥) (c : Char) (e : c ≡ charAt s p) where
-        code-same : (x : ℕ) → x < 0x80 → (getD s p 0 ≡ x → ⊥) → eqb (c .code) x ≡ false
-        code-same x l n = ap (λ (y : Char). eqb (y .code) x) (e ∙ charAt-in s p h) ∙ code-there s p x h l ∙ ne-eqb _ _ n
-
-        pub step-plain : joined q (quotedAt quote s p) ≡ joined (added q 1 (c .code) (c .width) (cond (isStray c) 1 0) false) (quotedAt quote s (p + c .width))
-        unfolding bodyFrom
-        step-plain =
+      module _ (no-lf : getD s p 0 ≡ 10 → ⊥) (no-slash : getD s p 0 ≡ 92 → ⊥) where
+        pub step-plain : (c : Char) → c ≡ charAt s p
+            → joined q (quotedAt quote s p) ≡ joined (added q 1 (c .code) (c .width) (cond (isStray c) 1 0) false) (quotedAt quote s (p + c .width))
+        step-plain c e =
             let r = chars (drop (p + c .width) s) in
-            rw (there-chars s p c h e, code-same quote low no-quote, code-same 10 (lit< tt) no-lf, code-same 92 (lit< tt) no-slash)
+            rw (at-plain quote low s p h no-quote no-lf no-slash c e, there-chars s p c h e)
             (joined-plain q p c r (body quote r) (strays-fit quote r 0) (rw (e ∙ charAt-in s p h) (stray-there s p h)))
+
+        -- an ASCII byte is a character
+        pub step-ascii : getD s p 0 < 0x80 → joined q (quotedAt quote s p) ≡ joined (added q 1 (getD s p 0) 1 0 false) (quotedAt quote s (p + 1))
+        step-ascii l =
+            rw (ne-eqb (getD s p 0) 0xFFFD (λ e. omega arith)) at (step-plain (ascii (getD s p 0)) (sym (charAt-ascii s p h l)))

@@ -1,10 +1,14 @@
 -- The body of a quoted literal as it is read: what one character adds to it, and how it ends.
 use Prim.Native.Nat.{ℕ, _+_}
-use mathlib.Core.Bool.{Bool, cond, _||_}
+use mathlib.Core.Bool.{Bool, false, cond, _||_}
 use lib.Dec.{eqb}
 use Rattle.quotes.specs.declared.Given.{Given}
 use Rattle.quotes.specs.declared.Given.the-variants.{Value, Bad}
 use Rattle.quotes.specs.declared.Quoted.{Quoted}
+
+-- before the first character
+abbrev pub nothing : ℕ → Quoted
+nothing at = record { end = at; chars = 0; closed = false; error = 0; count = 0; code = 0; escaped = false; strays = 0; bytes = 0 }
 
 -- one character more, written in n characters
 unfoldable pub added : Quoted → ℕ → ℕ → ℕ → ℕ → Bool → Quoted

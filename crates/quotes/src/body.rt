@@ -10,7 +10,24 @@ ghost use Rattle.utf8.specs.Chars.{isStray};
 ghost use Rattle.quotes.specs.Escape.{bytesOf};
 ghost use Rattle.quotes.specs.declared.Given.the-variants.{Value};
 ghost use Rattle.quotes.specs.Body.{quotedAt};
-ghost use Rattle.quotes.specs.Steps.{added, stopped, errorOf};
+ghost use Rattle.quotes.specs.Steps.{nothing, added, stopped, errorOf};
+
+// Before the first character.
+fn nothing_read(at: usize) -> Quoted
+    ensures { λ r. ⌜ r ≡ nothing at ⌝ }
+{
+    Quoted {
+        end: at,
+        chars: 0,
+        closed: false,
+        error: 0,
+        count: 0,
+        code: 0,
+        escaped: false,
+        strays: 0,
+        bytes: 0,
+    }
+}
 
 // One character more, written in n characters.
 fn add(q: Quoted, n: usize, code: u32, bytes: usize, strays: usize, escaped: bool) -> Quoted
@@ -78,17 +95,7 @@ fn body_at(src: &[u8], at: usize, quote: u8) -> Quoted
     requires { ⌜ quote < 128 ⌝ }
     ensures { λ r. ⌜ r ≡ quotedAt quote (now (src .entry)) at ⌝ }
 {
-    let mut q = Quoted {
-        end: at,
-        chars: 0,
-        closed: false,
-        error: 0,
-        count: 0,
-        code: 0,
-        escaped: false,
-        strays: 0,
-        bytes: 0,
-    };
+    let mut q = nothing_read(at);
     let mut p = at;
     while p < src.len() {
         let b = src[p];
@@ -107,6 +114,9 @@ fn body_at(src: &[u8], at: usize, quote: u8) -> Quoted
             };
             q = add(q, n, code, given_len(code, byte), 0, true);
             p += n;
+        } else if b < 128 {
+            q = add(q, 1, b as u32, 1, 0, false);
+            p += 1;
         } else {
             let c = utf8::char_at(src, p);
             let width = c.width;

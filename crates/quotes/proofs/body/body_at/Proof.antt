@@ -8,7 +8,7 @@ use native.Mathlib.Omega.{arith}
 use borrow.Author.Needs.{needs}
 use types.Run.{OneOf}
 use denote.Enum.Declared.{tagOf, declared}
-use lib.ListN.{length}
+use lib.ListN.{length, getD}
 use Rattle.utf8.specs.Chars.{isStray}
 use Rattle.utf8.proofs.First.{there-fits, there-least}
 use Rattle.quotes.proofs.Given.{enum}
@@ -18,7 +18,8 @@ use Rattle.quotes.specs.Escape.{bytesOf}
 use Rattle.quotes.specs.Body.{quotedAt}
 use Rattle.quotes.specs.Steps.{errorOf}
 use Rattle.quotes.proofs.Bodies.{escape-gives}
-use Rattle.quotes.proofs.Places.{joined, Within, added-within, added-chars, room-stop, room-add, less, fit64, stray-most, next, still, sooner, one-le, none-le, le-twice, right-part, joined-start, escape-fits, step-end, step-quote, step-lf, step-bad, step-escape, step-plain}
+use Rattle.quotes.proofs.Bounds.{Within, added-within, added-chars, room-stop, room-add, less, fit32, fit64, stray-most, next, still, sooner, one-le, none-le, le-twice, right-part}
+use Rattle.quotes.proofs.Places.{joined, joined-start, escape-fits, step-end, step-quote, step-lf, step-bad, step-escape, step-plain, step-ascii}
 use Rattle.quotes.proofs.body.body_at.Statement.{statement}
 use Rattle.quotes.proofs.body.body_at.Tie as tie
 
@@ -29,22 +30,22 @@ abbrev μ-loop : tie.MeasureT-loop
 μ-loop src at quote q₀ p₀ q p = length src - p
 
 -- the text is short of half the numbers
-short : (c : tie.At-loop Inv-loop μ-loop) → length (c .before .before .args .src .now) < 2 ^ 63
-short c = omega (arith, c .before .before .good .0 .1)
+short : (c : tie.At-loop Inv-loop μ-loop) → length (c .before .before .before .args .src .now) < 2 ^ 63
+short c = omega (arith, c .before .before .before .good .0 .1)
 
 -- an escape ends within the text
 fits : (c : tie.After-escape-at Inv-loop μ-loop)
-    → c .before .before .before .before .before .before .loop .p + (c .escape-at .result .len + 1) ≤ length (c .before .before .before .before .before .before .before .before .args .src .now)
+    → c .before .before .before .before .before .before .loop .p + (c .escape-at .result .len + 1) ≤ length (c .before .before .before .before .before .before .before .before .before .args .src .now)
 fits c = escape-fits _ _ _ (c .escape-at .result) (c .before .before .before .before .before .loop-test .taken) (c .escape-at .ensures)
 
 len-fits : (c : tie.After-escape-at Inv-loop μ-loop)
-    → c .escape-at .result .len + 1 ≤ length (c .before .before .before .before .before .before .before .before .args .src .now)
+    → c .escape-at .result .len + 1 ≤ length (c .before .before .before .before .before .before .before .before .before .args .src .now)
 len-fits c = right-part _ _ _ (fits c)
 
-within : (c : tie.In-loop Inv-loop μ-loop) → c .before .loop .p + 1 ≤ length (c .before .before .before .args .src .now)
+within : (c : tie.In-loop Inv-loop μ-loop) → c .before .loop .p + 1 ≤ length (c .before .before .before .before .args .src .now)
 within c = next (c .before .loop .p) _ (c .loop-test .taken)
 
-below : (c : tie.In-loop Inv-loop μ-loop) → c .before .loop .p + 0 ≤ length (c .before .before .before .args .src .now)
+below : (c : tie.In-loop Inv-loop μ-loop) → c .before .loop .p + 0 ≤ length (c .before .before .before .before .args .src .now)
 below c = still (c .before .loop .p) _ (sooner (c .before .loop .p) _ (c .loop-test .taken))
 
 -- what an escape gives is no longer than twice the escape
@@ -55,19 +56,22 @@ given-fits c =
 
 -- a character that was read is within the text, and takes a byte or more
 char-fits : (c : tie.After-char-at Inv-loop μ-loop)
-    → c .before .before .before .before .before .before .loop .p + c .char-at .result .width ≤ length (c .before .before .before .before .before .before .before .before .args .src .now)
-char-fits c = there-fits _ _ (c .char-at .result) (c .before .before .before .before .before .loop-test .taken) (c .char-at .ensures)
+    → c .before .before .before .before .before .before .before .loop .p + c .char-at .result .width ≤ length (c .before .before .before .before .before .before .before .before .before .before .args .src .now)
+char-fits c = there-fits _ _ (c .char-at .result) (c .before .before .before .before .before .before .loop-test .taken) (c .char-at .ensures)
 
 char-least : (c : tie.After-char-at Inv-loop μ-loop) → 1 ≤ c .char-at .result .width
-char-least c = there-least _ _ (c .char-at .result) (c .before .before .before .before .before .loop-test .taken) (c .char-at .ensures)
+char-least c = there-least _ _ (c .char-at .result) (c .before .before .before .before .before .before .loop-test .taken) (c .char-at .ensures)
 
 -- in the else: an escape that gives nothing
 not-value : (g : Given) → OneOf (1 ∷ []) (tagOf (declared enum) g) → g ≡ Bad (errorOf g)
 not-value (Value code byte) k = absurd (omega arith)
 not-value (Bad error) k = refl
 
+nothing-read-requires : tie.Need-nothing-read-requires Inv-loop μ-loop
+nothing-read-requires c κs = tt
+
 loop-holds : tie.Need-loop-holds Inv-loop μ-loop
-loop-holds c = ((search needs, search needs, search needs, search needs, refl), search needs, joined-start (c .before .args .at) _)
+loop-holds c = rw (c .nothing-read .ensures) ((none-le _, none-le _, none-le _, none-le _, refl), none-le _, joined-start (c .before .before .args .at) _)
 
 shared-slice-read-b : tie.Need-shared-slice-read-b Inv-loop μ-loop
 shared-slice-read-b c = search needs
@@ -81,11 +85,11 @@ stop-requires c κs = room-stop _ _ (c .before .before .before .loop .q) 1 (c .b
 returns : tie.Need-returns Inv-loop μ-loop
 returns c =
     let l = c .before .before .before .before in
-    let a = l .before .before .args in
+    let a = l .before .before .before .args in
     let h = c .before .before .before .loop-test .taken in
     let w = l .loop .inv .0 in
     c .stop .ensures
-    ∙ step-quote (a .quote) (l .before .before .pre) (a .src .now) (l .loop .p) (l .loop .q) h (w .4) (c .before .if1 .taken)
+    ∙ step-quote (a .quote) (l .before .before .before .pre) (a .src .now) (l .loop .p) (l .loop .q) h (w .4) (c .before .if1 .taken)
     ∙ sym (l .loop .inv .2)
 
 stop-requires-2 : tie.Need-stop-requires-2 Inv-loop μ-loop
@@ -94,11 +98,11 @@ stop-requires-2 c κs = room-stop _ _ (c .before .before .before .before .loop .
 returns-2 : tie.Need-returns-2 Inv-loop μ-loop
 returns-2 c =
     let l = c .before .before .before .before .before in
-    let a = l .before .before .args in
+    let a = l .before .before .before .args in
     let h = c .before .before .before .before .loop-test .taken in
     let w = l .loop .inv .0 in
     c .stop2 .ensures
-    ∙ step-lf (a .quote) (l .before .before .pre) (a .src .now) (l .loop .p) (l .loop .q) h (c .before .before .if1 .left) (w .4) (c .before .if2 .taken)
+    ∙ step-lf (a .quote) (l .before .before .before .pre) (a .src .now) (l .loop .p) (l .loop .q) h (c .before .before .if1 .left) (w .4) (c .before .if2 .taken)
     ∙ sym (l .loop .inv .2)
 
 add-escape-at : tie.Need-add-escape-at Inv-loop μ-loop
@@ -128,14 +132,14 @@ stop-requires-3 c κs = room-stop _ _ (c .before .before .before .before .before
 returns-3 : tie.Need-returns-3 Inv-loop μ-loop
 returns-3 c =
     let l = c .before .before .before .before .before .before .before .before .before .before .before in
-    let a = l .before .before .args in
+    let a = l .before .before .before .args in
     let h = c .before .before .before .before .before .before .before .before .before .before .loop-test .taken in
     let w = l .loop .inv .0 in
     let x = c .before .before .before .before .before .escape-at in
     let n : x .result .given ≡ Bad (errorOf (x .result .given)) = not-value (x .result .given) (c .before .before .before .match .keys2) in
     c .stop3 .ensures
     ∙ rw (c .before .error-of .ensures)
-    (step-bad (a .quote) (l .before .before .pre) (a .src .now) (l .loop .p) (l .loop .q) h (c .before .before .before .before .before .before .before .before .if1 .left) (c .before .before .before .before .before .before .if3 .taken) (x .result) (x .ensures) (errorOf (x .result .given)) (w .4) n)
+    (step-bad (a .quote) (l .before .before .before .pre) (a .src .now) (l .loop .p) (l .loop .q) h (c .before .before .before .before .before .before .before .before .if1 .left) (c .before .before .before .before .before .before .if3 .taken) (x .result) (x .ensures) (errorOf (x .result .given)) (w .4) n)
     ∙ sym (l .loop .inv .2)
 
 given-len-requires : tie.Need-given-len-requires Inv-loop μ-loop
@@ -156,7 +160,7 @@ loop-less c = less (c .before .before .before .before .before .before .before .b
 loop-again : tie.Need-loop-again Inv-loop μ-loop
 loop-again c =
     let l = c .before .before .before .before .before .before .before .before .before .before .before .before in
-    let a = l .before .before .args in
+    let a = l .before .before .before .args in
     let x = c .before .before .before .before .before .before .escape-at in
     let n = x .result .len + 1 in
     let v = c .before .before .before .given .given in
@@ -165,7 +169,33 @@ loop-again c =
       added-within (l .loop .p) n (l .loop .q) n (v .0 .0) (length (bytesOf (Value (v .0 .0) (v .0 .1 .0)))) 0 true (l .loop .inv .0) (le-refl n) (one-le _) (none-le n) m,
       added-chars (l .loop .p) n _ (l .loop .q) n (v .0 .0) (length (bytesOf (Value (v .0 .0) (v .0 .1 .0)))) 0 true (l .loop .inv .0) (fits (c .before .before .before .before .before .before)) (le-refl n),
       l .loop .inv .2
-          ∙ step-escape (a .quote) (l .before .before .pre) (a .src .now) (l .loop .p) (l .loop .q) (c .before .before .before .before .before .before .before .before .before .before .before .loop-test .taken) (c .before .before .before .before .before .before .before .before .before .if1 .left) (c .before .before .before .before .before .before .before .if3 .taken) (x .result) (x .ensures) (v .0 .0) (v .0 .1 .0) (v .1),
+          ∙ step-escape (a .quote) (l .before .before .before .pre) (a .src .now) (l .loop .p) (l .loop .q) (c .before .before .before .before .before .before .before .before .before .before .before .loop-test .taken) (c .before .before .before .before .before .before .before .before .before .if1 .left) (c .before .before .before .before .before .before .before .if3 .taken) (x .result) (x .ensures) (v .0 .0) (v .0 .1 .0) (v .1),
+    )
+
+cast-add : tie.Need-cast-add Inv-loop μ-loop
+cast-add c = record { fits = fit32 _ (c .if4 .taken) }
+
+add-requires-2 : tie.Need-add-requires-2 Inv-loop μ-loop
+add-requires-2 c κs =
+    let l = c .before .before .before .before .before .before in
+    room-add (l .loop .p) _ 1 (l .loop .q) 1 1 0 (l .loop .inv .0) (within (c .before .before .before .before .before)) (short l) (le-refl 1) (le-refl 1) (none-le 1) (le-twice 1)
+
+add-p-2 : tie.Need-add-p-2 Inv-loop μ-loop
+add-p-2 c = record { fits = fit64 _ _ (within (c .before .before .before .before .before .before)) (short (c .before .before .before .before .before .before .before)) }
+
+loop-less-2 : tie.Need-loop-less-2 Inv-loop μ-loop
+loop-less-2 c = less (c .before .before .before .before .before .before .before .loop .p) 1 _ (within (c .before .before .before .before .before .before)) (le-refl 1)
+
+loop-again-2 : tie.Need-loop-again-2 Inv-loop μ-loop
+loop-again-2 c =
+    let l = c .before .before .before .before .before .before .before in
+    let a = l .before .before .before .args in
+    let b = getD (a .src .now) (l .loop .p) 0 in
+    rw (c .add2 .ensures) (
+      added-within (l .loop .p) 1 (l .loop .q) 1 b 1 0 false (l .loop .inv .0) (le-refl 1) (le-refl 1) (none-le 1) (le-twice 1),
+      added-chars (l .loop .p) 1 _ (l .loop .q) 1 b 1 0 false (l .loop .inv .0) (within (c .before .before .before .before .before .before)) (le-refl 1),
+      l .loop .inv .2
+          ∙ step-ascii (a .quote) (l .before .before .before .pre) (a .src .now) (l .loop .p) (l .loop .q) (c .before .before .before .before .before .before .loop-test .taken) (c .before .before .before .before .if1 .left) (c .before .before .before .if2 .left) (c .before .before .if3 .left) (c .before .if4 .taken),
     )
 
 char-at-requires : tie.Need-char-at-requires Inv-loop μ-loop
@@ -174,30 +204,32 @@ char-at-requires c κs = tt
 stray-count-requires : tie.Need-stray-count-requires Inv-loop μ-loop
 stray-count-requires c κs = tt
 
-add-requires-2 : tie.Need-add-requires-2 Inv-loop μ-loop
-add-requires-2 c κs =
-    let r = c .before .char-at in
-    room-add _ _ (r .result .width) (c .before .before .before .before .before .before .before .loop .q) 1 (r .result .width) (c .stray-count .result) (c .before .before .before .before .before .before .before .loop .inv .0) (char-fits (c .before)) (short (c .before .before .before .before .before .before .before))
-    (char-least (c .before)) (char-least (c .before)) (rw (c .stray-count .ensures) (stray-most (r .result) _ (char-least (c .before)))) (le-twice _)
-
-add-p-2 : tie.Need-add-p-2 Inv-loop μ-loop
-add-p-2 c = record { fits = fit64 _ _ (char-fits (c .before .before)) (short (c .before .before .before .before .before .before .before .before)) }
-
-loop-less-2 : tie.Need-loop-less-2 Inv-loop μ-loop
-loop-less-2 c = less (c .before .before .before .before .before .before .before .before .loop .p) (c .before .before .char-at .result .width) _ (char-fits (c .before .before)) (char-least (c .before .before))
-
-loop-again-2 : tie.Need-loop-again-2 Inv-loop μ-loop
-loop-again-2 c =
+add-requires-3 : tie.Need-add-requires-3 Inv-loop μ-loop
+add-requires-3 c κs =
     let l = c .before .before .before .before .before .before .before .before in
-    let a = l .before .before .args in
+    let r = c .before .char-at in
+    let least = char-least (c .before) in
+    room-add _ _ (r .result .width) (l .loop .q) 1 (r .result .width) (c .stray-count .result) (l .loop .inv .0) (char-fits (c .before)) (short l)
+    least least (rw (c .stray-count .ensures) (stray-most (r .result) _ least)) (le-twice _)
+
+add-p-3 : tie.Need-add-p-3 Inv-loop μ-loop
+add-p-3 c = record { fits = fit64 _ _ (char-fits (c .before .before)) (short (c .before .before .before .before .before .before .before .before .before)) }
+
+loop-less-3 : tie.Need-loop-less-3 Inv-loop μ-loop
+loop-less-3 c = less (c .before .before .before .before .before .before .before .before .before .loop .p) (c .before .before .char-at .result .width) _ (char-fits (c .before .before)) (char-least (c .before .before))
+
+loop-again-3 : tie.Need-loop-again-3 Inv-loop μ-loop
+loop-again-3 c =
+    let l = c .before .before .before .before .before .before .before .before .before in
+    let a = l .before .before .before .args in
     let r = c .before .before .char-at in
     let w = r .result .width in
     let least = char-least (c .before .before) in
-    rw (c .add2 .ensures, c .before .stray-count .ensures) (
+    rw (c .add3 .ensures, c .before .stray-count .ensures) (
       added-within (l .loop .p) w (l .loop .q) 1 (r .result .code) w (cond (isStray (r .result)) 1 0) false (l .loop .inv .0) least least (stray-most (r .result) w least) (le-twice w),
       added-chars (l .loop .p) w _ (l .loop .q) 1 (r .result .code) w (cond (isStray (r .result)) 1 0) false (l .loop .inv .0) (char-fits (c .before .before)) least,
       l .loop .inv .2
-          ∙ step-plain (a .quote) (l .before .before .pre) (a .src .now) (l .loop .p) (l .loop .q) (c .before .before .before .before .before .before .before .loop-test .taken) (c .before .before .before .before .before .if1 .left) (c .before .before .before .before .if2 .left) (c .before .before .before .if3 .left) (r .result) (r .ensures),
+          ∙ step-plain (a .quote) (l .before .before .before .pre) (a .src .now) (l .loop .p) (l .loop .q) (c .before .before .before .before .before .before .before .before .loop-test .taken) (c .before .before .before .before .before .before .if1 .left) (c .before .before .before .before .before .if2 .left) (c .before .before .before .before .if3 .left) (r .result) (r .ensures),
     )
 
 stop-requires-4 : tie.Need-stop-requires-4 Inv-loop μ-loop
@@ -206,9 +238,9 @@ stop-requires-4 c κs = fit64 _ _ (still _ _ (c .before .loop .inv .1)) (short (
 returns-4 : tie.Need-returns-4 Inv-loop μ-loop
 returns-4 c =
     let l = c .before .before in
-    let a = l .before .before .args in
+    let a = l .before .before .before .args in
     c .stop4 .ensures
-    ∙ step-end (a .quote) (l .before .before .pre) (a .src .now) (l .loop .p) (l .loop .q) (l .loop .inv .0 .4) (c .before .loop-test .left)
+    ∙ step-end (a .quote) (l .before .before .before .pre) (a .src .now) (l .loop .p) (l .loop .q) (l .loop .inv .0 .4) (c .before .loop-test .left)
     ∙ sym (l .loop .inv .2)
 
 pub body-at-spec : {M : Type 1} → statement M
@@ -217,6 +249,7 @@ body-at-spec =
     (tie.spec
     Inv-loop
     μ-loop
+    nothing-read-requires
     loop-holds
     shared-slice-read-b
     add-stop
@@ -238,11 +271,16 @@ body-at-spec =
     add-p
     loop-less
     loop-again
-    char-at-requires
-    stray-count-requires
+    cast-add
     add-requires-2
     add-p-2
     loop-less-2
     loop-again-2
+    char-at-requires
+    stray-count-requires
+    add-requires-3
+    add-p-3
+    loop-less-3
+    loop-again-3
     stop-requires-4
     returns-4)
