@@ -2,4 +2,4 @@ pub mod Lexeme
 pub mod Words
 pub mod Quotes
 pub mod Comments
-
+pub mod Lex

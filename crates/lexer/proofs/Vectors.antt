@@ -1,0 +1,88 @@
+-- Worked examples: what the first scan of a text reads, by computation.
+use Prim.Native.Nat.{ℕ}
+use Prim.Native.String.{String}
+use mathlib.Core.Path.{_≡_, refl}
+use mathlib.Core.Bool.{Bool, true, false}
+use mathlib.Core.List.{List, [], _∷_}
+use Rattle.basics.specs.Same.{same}
+use Rattle.basics.specs.Spelling.{spelled}
+use Rattle.utf8.specs.Chars.{charsFrom, chars, firstChar, octets, encode}
+use Rattle.token.specs.Kinds.{ILLEGAL, EOF, COMMENT, IDENT, INT, STRING, SEMICOLON, FOR, DEFINE}
+use Rattle.token.specs.Table.{keywords, operators, kindNamed}
+use Rattle.digits.specs.Digit.{digitVal}
+use Rattle.words.specs.Word.{isLetter, isWord, wordLen}
+use Rattle.blanks.specs.Blank.{isSpace, isBlank, skip}
+use Rattle.operators.specs.Longest.{begins, longest}
+use Rattle.numbers.specs.Run.{digitRun, strictRun}
+use Rattle.numbers.specs.Number.{exponent, finish, fraction, decimalRest, decimal, prefixed, bareZero, leadingZero, withoutI, number}
+use Rattle.numbers.specs.Spelling.{numberText}
+use Rattle.quotes.specs.Numeral.{numeral}
+use Rattle.quotes.specs.Escape.{letter, byteOf, codeOf, octalEscape, following, hexEscape, escapeOf}
+use Rattle.quotes.specs.Body.{bodyFrom}
+use Rattle.bodies.specs.Span.{toStop, toStarSlash}
+use Rattle.bodies.specs.Body.{clean}
+use Rattle.bodies.specs.Line.{blankToEnd, endsLine}
+use Rattle.bodies.specs.Line as Line
+use Rattle.lexer.specs.Lexeme.{Lexeme, shown, bare, insertedSemicolon, raise}
+use Rattle.lexer.specs.Words.{wordOf, lexNumber}
+use Rattle.lexer.specs.Quotes.{lexString, lexChar, lexRaw}
+use Rattle.lexer.specs.Comments.{comment, lexComment}
+use Rattle.lexer.specs.Lex.{lexOperator, lexDot, lexSlash, lexBy, lexToken, lex}
+
+-- the first scan of a text, with or without the mark
+abbrev first : Bool → String → Lexeme
+first mark s = lex mark (chars (spelled s))
+
+empty : first false "" ≡ bare EOF 0 false
+unfolding charsFrom skip lexToken lex
+empty = refl
+
+semicolon : first true "" ≡ insertedSemicolon
+unfolding charsFrom skip lexToken lex
+semicolon = refl
+
+ident : first false " x" ≡ raise 1 (shown IDENT 1 (spelled "x") 0 true)
+unfolding charsFrom firstChar octets encode skip isBlank isSpace isLetter isWord wordLen same kindNamed keywords wordOf lexBy lexToken lex
+ident = refl
+
+keyword : first false "for" ≡ bare FOR 3 false
+unfolding charsFrom firstChar octets encode skip isBlank isSpace isLetter isWord wordLen same kindNamed keywords wordOf lexBy lexToken lex
+keyword = refl
+
+define : first true ":=1" ≡ bare DEFINE 2 false
+unfolding charsFrom firstChar octets encode skip isBlank isSpace isLetter begins longest operators lexOperator lexBy lexToken lex
+define = refl
+
+octal : first false "08" ≡ shown ILLEGAL 1 (spelled "0o") 2 true
+unfolding charsFrom firstChar octets encode skip isBlank isSpace isLetter digitVal digitRun strictRun decimal prefixed bareZero leadingZero withoutI number numberText lexNumber lexBy lexToken lex
+octal = refl
+
+hexadecimal : first false "0X1F" ≡ shown INT 4 (spelled "0x1F") 0 true
+unfolding charsFrom firstChar octets encode skip isBlank isSpace isLetter digitVal digitRun strictRun decimal prefixed bareZero leadingZero withoutI number numberText lexNumber lexBy lexToken lex
+hexadecimal = refl
+
+doubled : first false "1__0" ≡ shown ILLEGAL 2 (spelled "1_") 4 true
+unfolding charsFrom firstChar octets encode skip isBlank isSpace isLetter digitVal digitRun strictRun decimal withoutI number numberText lexNumber lexBy lexToken lex
+doubled = refl
+
+two-dots : first true "..x" ≡ shown ILLEGAL 2 (spelled "..") 0 true
+unfolding charsFrom firstChar octets encode skip isBlank isSpace isLetter lexDot lexBy lexToken lex
+two-dots = refl
+
+no-character : first false "''" ≡ shown ILLEGAL 2 (spelled "''") 13 true
+unfolding charsFrom firstChar octets encode skip isBlank isSpace isLetter bodyFrom lexChar lexBy lexToken lex
+no-character = refl
+
+over-range : first false "\"\\400\"" ≡ shown ILLEGAL 5 (spelled "\"\\400") 0 true
+unfolding charsFrom firstChar octets encode skip isBlank isSpace isLetter digitVal numeral letter byteOf octalEscape escapeOf bodyFrom lexString lexBy lexToken lex
+over-range = refl
+
+-- `/* c */ r` under the mark: the comment does not end the line
+inside : first true " /* c */ r" ≡ raise 1 (shown COMMENT 7 (spelled "/* c */") 0 true)
+unfolding charsFrom firstChar octets encode skip isBlank isSpace isLetter toStarSlash clean Line.isBlank blankToEnd endsLine comment lexComment lexSlash lexBy lexToken lex
+inside = refl
+
+-- a comment at the end does
+at-end : first true " /* c */" ≡ raise 1 insertedSemicolon
+unfolding charsFrom firstChar octets encode skip isBlank isSpace isLetter Line.isBlank blankToEnd endsLine lexComment lexSlash lexBy lexToken lex
+at-end = refl
