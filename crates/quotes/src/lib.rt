@@ -13,7 +13,7 @@ pub enum Given {
     Bad { error: u8 },
 }
 
-// An escape: how many characters it has after the backslash, and what it gives.
+// An escape: how many characters it has after the backslash, each of one byte where the quote is ASCII, and what it gives.
 pub struct Escaped {
     pub len: usize,
     pub given: Given,
