@@ -1,20 +1,19 @@
 -- Laws of the longest operator: its bound, more text behind a line feed, and when there is none.
 use Prim.Native.Nat.{ℕ, suc, _≤_, _<_}
-use mathlib.Core.Path.{_≡_, refl, sym, ap, _∙_}
-use mathlib.Core.Bool.{Bool, true, false, cond, not, _&&_, false≢true}
+use mathlib.Core.Path.{_≡_, refl}
+use mathlib.Core.Bool.{Bool, true, false, not, _&&_, false≢true}
 use mathlib.Core.List.{List, [], _∷_, _++_}
-use mathlib.Core.Logic.{⊎-elim}
 use native.Mathlib.Omega.{arith}
-use lib.Dec.{T, leb, eqb, lit≤}
+use lib.Dec.{T, leb, eqb}
 use lib.ListN.{length}
-use borrow.Author.Tests.{eqb-true, eqb-false, ne-eqb, not-true}
-use Rattle.basics.proofs.Choice.{cond-ind, either, and-left, and-right, and-split}
+use borrow.Author.Tests.{eqb-true}
+use Rattle.basics.proofs.Choice.{cond-ind, and-left, and-right, and-split}
 use Rattle.utf8.specs.declared.Char.{Char}
 use Rattle.utf8.proofs.Ends.{Ends, ends-tail, ends-some}
 use Rattle.token.specs.Kinds.{ILLEGAL}
 use Rattle.token.specs.Table.{Row, operators}
 use Rattle.operators.specs.declared.Operator.{Operator}
-use Rattle.operators.specs.Longest.{begins, op, none, longer, longest, operatorOf}
+use Rattle.operators.specs.Longest.{begins, longer, longest, operatorOf}
 
 -- ---- no longer than the text
 begins-bound : (xs : List ℕ) (r : List Char) → begins xs r ≡ true → length xs ≤ length r
