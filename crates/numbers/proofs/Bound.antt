@@ -1,4 +1,4 @@
--- A number reads no more characters than there are, and one at least where it starts with a digit or a point.
+-- A number reads no more characters than there are.
 use Prim.Native.Nat.{ℕ, suc, _+_, _≤_, _<_}
 use mathlib.Core.Path.{_≡_, refl}
 use mathlib.Core.Bool.{Bool, true, false, cond, _&&_, _||_}
