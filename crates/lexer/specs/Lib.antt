@@ -3,3 +3,5 @@ pub mod Words
 pub mod Quotes
 pub mod Comments
 pub mod Lex
+pub mod Placed
+pub mod Made

@@ -48,6 +48,10 @@ charOf r b =
 unfoldable pub lexChar : List Char → Lexeme
 lexChar r = charOf r (body 39 (drop 1 r))
 
+-- how many characters of a raw string's span belong to its value
+abbrev pub rawInside : Span → ℕ
+rawInside s = cond (s .closed) (s .len - 1) (s .len)
+
 -- "Raw strings drop CR from text and value; an unclosed one is still a STRING." Its error is 6
 abbrev pub rawOf : List Char → Span → Lexeme
 rawOf r s =
@@ -57,7 +61,7 @@ rawOf r s =
       kind = STRING;
       inserted = false;
       text = clean (take (suc (s .len)) r);
-      value = clean (take (cond (s .closed) (s .len - 1) (s .len)) (drop 1 r));
+      value = clean (take (rawInside s) (drop 1 r));
       code = 0;
       error = cond (s .closed) 0 6;
       mark = true;

@@ -1,0 +1,105 @@
+-- What is said of a token that was read at a place of a source: the lexeme, and how it stands in the bytes.
+use Prim.Native.Nat.{ℕ, _+_, _*_, _-_}
+use mathlib.Core.Bool.{Bool, true, false, cond, not, _&&_, _||_}
+use mathlib.Core.List.{List, [], _∷_, _++_}
+use lib.Dec.{eqb}
+use lib.ListN.{length, take, drop}
+use Rattle.basics.specs.Same.{same}
+use Rattle.utf8.specs.declared.Char.{Char}
+use Rattle.utf8.specs.Chars.{chars, widths, isStray, encoded}
+use Rattle.token.specs.Kinds.{STRING}
+use Rattle.numbers.specs.Spelling.{numberText}
+use Rattle.quotes.specs.Body.{body}
+use Rattle.bodies.specs.Span.{Span, toStop}
+use Rattle.bodies.specs.Body.{isLf, count, clean}
+use Rattle.lexer.specs.declared.lexed.Text.{Text}
+use Rattle.lexer.specs.declared.lexed.Text.the-variants.{Empty, AsRead, Number, WithoutCr, WithLf}
+use Rattle.lexer.specs.declared.lexed.Value.{Value}
+use Rattle.lexer.specs.declared.lexed.Value.the-variants.{Empty as NoValue, Interpreted, Raw}
+use Rattle.lexer.specs.declared.lexed.Lexed.{Lexed}
+use Rattle.lexer.specs.Lexeme.{Lexeme}
+use Rattle.lexer.specs.Quotes.{rawInside}
+
+-- the text for each way of making it, from the characters read
+abbrev pub textOf : Text → List Char → List ℕ
+textOf Empty cs = []
+textOf AsRead cs = encoded cs
+textOf (Number spelling) cs = numberText spelling (encoded cs)
+textOf WithoutCr cs = clean cs
+textOf WithLf cs = clean cs ++ (10 ∷ [])
+
+-- the value for each way of making it, from the characters after the opening quote
+abbrev pub valueOf : Value → List Char → List ℕ
+valueOf NoValue r = []
+valueOf Interpreted r = body 34 r .value
+valueOf Raw r = clean (take (rawInside (toStop 96 r)) r)
+
+-- a lexeme in the bytes of a source
+pub record Placed : Type 0 where
+  pub lexeme : Lexeme
+  -- the place after it
+  pub end : ℕ
+  -- how many of its characters are line feeds and stray bytes
+  pub lfs : ℕ
+  pub strays : ℕ
+  -- how many bytes text and value have, each stray byte counted as one
+  pub textBytes : ℕ
+  pub valueBytes : ℕ
+  -- are they other bytes than those of the source?
+  pub textDiffers : Bool
+  pub valueDiffers : Bool
+
+-- "the bytes after the opening quote up to the closing one or the end", of the bytes of a token
+abbrev pub valueRead : Lexeme → List ℕ → List ℕ
+valueRead x bytes = cond (eqb (x .kind) STRING) (take (length bytes - cond (eqb (x .error) 6) 1 2) (drop 1 bytes)) []
+
+-- "Where the text equals the bytes read .. it is shown from the source." A token that has none shows none
+abbrev pub textDiffersIn : List ℕ → List ℕ → Bool
+textDiffersIn [] bytes = false
+textDiffersIn (b ∷ text) bytes = not (same (b ∷ text) bytes)
+
+-- a lexeme of the characters cs, whose bytes are these
+abbrev pub placedIn : ℕ → Lexeme → List Char → List ℕ → Placed
+placedIn at x cs bytes =
+    record {
+      lexeme = x;
+      end = at + widths cs;
+      lfs = count isLf cs;
+      strays = count isStray cs;
+      textBytes = length (x .text) - 2 * count isStray cs;
+      valueBytes = length (x .value) - 2 * count isStray cs;
+      textDiffers = textDiffersIn (x .text) bytes;
+      valueDiffers = not (same (x .value) (valueRead x bytes));
+    }
+
+-- a lexeme at a place
+unfoldable pub placed : List ℕ → ℕ → Lexeme → Placed
+placed s at x =
+    let cs = take (x .len) (chars (drop at s)) in
+    placedIn at x cs (take (widths cs) (drop at s))
+
+-- what the code's answer says
+unfoldable pub said : List ℕ → ℕ → Lexed → Placed
+said s at x =
+    let r = chars (drop at s) in
+    record {
+      lexeme =
+          record {
+            skipped = 0;
+            len = x .chars;
+            kind = x .kind;
+            inserted = x .inserted;
+            text = textOf (x .text) (take (x .chars) r);
+            value = valueOf (x .value) (drop 1 r);
+            code = x .code;
+            error = x .error;
+            mark = x .mark;
+          };
+      end = x .end;
+      lfs = x .lfs;
+      strays = x .strays;
+      textBytes = x .«text_bytes»;
+      valueBytes = x .«value_bytes»;
+      textDiffers = x .«text_differs»;
+      valueDiffers = x .«value_differs»;
+    }

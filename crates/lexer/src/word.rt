@@ -1,0 +1,24 @@
+// Identifiers and keywords.
+use crate::lexed::Lexed;
+use crate::lexed::bare;
+use crate::lexed::sets_mark;
+use crate::lexed::shown;
+ghost use mathlib.Core.Path.{_≡_};
+ghost use Prim.Native.Nat.{_≤_};
+ghost use lib.ListN.{length, drop};
+ghost use Rattle.utf8.specs.Chars.{chars};
+ghost use Rattle.lexer.specs.Words.{lexWord};
+ghost use Rattle.lexer.specs.Placed.{said, placed};
+
+// The word at a place.
+pub(crate) fn lex_word(src: &[u8], at: usize) -> Lexed
+    requires { ⌜ at ≤ length (now src) ⌝ }
+    ensures { λ r. ⌜ said (now (src .entry)) at r ≡ placed (now (src .entry)) at (lexWord (chars (drop at (now (src .entry))))) ⌝ }
+{
+    let end = words::word_end(src, at);
+    let kind = token::ident_token(&src[at..], end - at);
+    if kind == token::IDENT {
+        return shown(kind, at, end, true);
+    }
+    bare(kind, at, end, sets_mark(kind))
+}
