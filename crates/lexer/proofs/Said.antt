@@ -1,0 +1,55 @@
+-- An answer says what a lexeme is at its place: field by field.
+use Prim.Native.Nat.{ℕ, _+_, _*_, _-_}
+use mathlib.Core.Path.{_≡_}
+use mathlib.Core.Bool.{Bool, not}
+use mathlib.Core.List.{List}
+use lib.ListN.{length, take, drop}
+use Rattle.basics.specs.Same.{same}
+use Rattle.utf8.specs.declared.Char.{Char}
+use Rattle.utf8.specs.Chars.{chars, widths, isStray}
+use Rattle.bodies.specs.Body.{isLf, count}
+use Rattle.lexer.specs.declared.lexed.Lexed.{Lexed}
+use Rattle.lexer.specs.Lexeme.{Lexeme}
+use Rattle.lexer.specs.Placed.{Placed, textOf, valueOf, textDiffersIn, valueRead, placedIn, placed, said}
+
+-- the lexeme that an answer tells, of the characters from its place on
+abbrev pub told : List Char → Lexed → Lexeme
+told r x =
+    record {
+      skipped = 0;
+      len = x .chars;
+      kind = x .kind;
+      inserted = x .inserted;
+      text = textOf (x .text) (take (x .chars) r);
+      value = valueOf (x .value) (drop 1 r);
+      code = x .code;
+      error = x .error;
+      mark = x .mark;
+    }
+
+-- an answer is right if each field is, for the lexeme's characters cs and their bytes
+pub record Right (at : ℕ) (x : Lexed) (y : Lexeme) (r cs : List Char) (bytes : List ℕ) : Type 0 where
+  pub lexeme : told r x ≡ y
+  pub end : x .end ≡ at + widths cs
+  pub lfs : x .lfs ≡ count isLf cs
+  pub strays : x .strays ≡ count isStray cs
+  pub textBytes : x .«text_bytes» ≡ length (y .text) - 2 * count isStray cs
+  pub valueBytes : x .«value_bytes» ≡ length (y .value) - 2 * count isStray cs
+  pub textDiffers : x .«text_differs» ≡ textDiffersIn (y .text) bytes
+  pub valueDiffers : x .«value_differs» ≡ not (same (y .value) (valueRead y bytes))
+
+pub right-said : (s : List ℕ) (at : ℕ) (x : Lexed) (y : Lexeme)
+    → Right at x y (chars (drop at s)) (take (y .len) (chars (drop at s))) (take (widths (take (y .len) (chars (drop at s)))) (drop at s))
+    → said s at x ≡ placed s at y
+unfolding said placed
+right-said s at x y h =
+    λ i. record {
+      lexeme = h .lexeme i;
+      end = h .end i;
+      lfs = h .lfs i;
+      strays = h .strays i;
+      textBytes = h .textBytes i;
+      valueBytes = h .valueBytes i;
+      textDiffers = h .textDiffers i;
+      valueDiffers = h .valueDiffers i;
+    }
