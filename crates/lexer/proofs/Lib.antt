@@ -1,1 +1,6 @@
 pub mod Vectors
+pub mod LexLaws
+pub mod Known
+pub mod Fine
+pub mod Rules
+pub mod Laws
