@@ -1,4 +1,4 @@
--- The laws of one token as a record, which goes through a choice once, and the two ways to meet them: a token read, an inserted semicolon.
+-- The laws of one token as one record: it passes through a choice, and holds of a token that reads characters and of an inserted semicolon.
 use Prim.Native.Nat.{ℕ, _≤_, _<_}
 use mathlib.Core.Path.{_≡_, refl, sym, _∙_}
 use mathlib.Core.Bool.{Bool, true, false, cond, true≢false}
@@ -17,11 +17,13 @@ use Rattle.lexer.proofs.Known.{Known}
 pub record Fine (m : Bool) (r : List Char) (x x′ : Lexeme) : Type 0 where
   -- blanks are skipped before it
   pub none : x .skipped ≡ 0
+  -- it reads no more than is there
   pub bound : x .len ≤ length r
   -- it is EOF only at the end, with no mark
   pub only : x .kind ≡ EOF → (m ≡ false) × (r ≡ [])
   -- it does not depend on what stands behind the last line feed, and does not read it if it leaves a mark
   pub local : Ends r → Shut (x .error) → (x′ ≡ x) × (x .mark ≡ true → x .len < length r)
+  -- it reads a character or is an inserted semicolon
   pub moves : x .kind ≢ EOF → Moves m x
 
 module _ (m : Bool) (r : List Char) where
@@ -71,7 +73,7 @@ fine-reads m r n x x′ i some b f =
       moves = λ _. inl (rw (i .len) some, i .there);
     }
 
--- what is not shut is closed
+-- a body that reports its error where it is open, and does not report it, is closed
 pub closed-if : (b : Bool) (e : ℕ) → (Shut e → ⊥) → Shut (cond b 0 e) → b ≡ true
 closed-if true e n s = refl
 closed-if false e n s = absurd (n s)

@@ -1,7 +1,7 @@
 -- `lex` has the laws of LexLaws.antt.
-use Prim.Native.Nat.{ℕ, _+_, _≤_, _<_}
+use Prim.Native.Nat.{ℕ, _+_, _-_, _≤_, _<_}
 use mathlib.Core.Path.{_≡_, refl, sym, ap, _∙_, subst}
-use mathlib.Core.Bool.{Bool, true, false, cond, not, _&&_, true≢false}
+use mathlib.Core.Bool.{Bool, true, false, true≢false}
 use mathlib.Core.List.{List, [], _∷_, _++_}
 use mathlib.Core.Logic.{_≢_}
 use native.Mathlib.Omega.{arith}
@@ -9,9 +9,9 @@ use native.Mathlib.Nat.{add-zero, add-assoc}
 use native.Mathlib.Decide.{decLt}
 use lib.Dec.{eqb}
 use lib.ListN.{length, drop, length-drop, drop-of-length-le}
-use lib.Seq.{drop-append-le, drop-append-add, drop-drop}
+use lib.Seq.{drop-append-le, drop-append-add}
 use borrow.Author.Tests.{eqb-true, eqb-false, not-false}
-use Rattle.basics.proofs.Choice.{cond-ind, between-true}
+use Rattle.basics.proofs.Choice.{cond-ind}
 use Rattle.utf8.specs.declared.Char.{Char}
 use Rattle.utf8.specs.Chars.{peek}
 use Rattle.utf8.proofs.Ends.{Ends, ends-drop}
@@ -20,7 +20,7 @@ use Rattle.digits.specs.Digit.{isDecimal}
 use Rattle.words.specs.Word.{isLetter}
 use Rattle.blanks.specs.Blank.{isSpace, isBlank, Skip, skip}
 use Rattle.blanks.proofs.Lengths.{skip-bound, skip-inside, skip-over, mark-stops}
-use Rattle.lexer.specs.Lexeme.{Lexeme, bare, insertedSemicolon, raise}
+use Rattle.lexer.specs.Lexeme.{insertedSemicolon, raise}
 use Rattle.lexer.specs.Lex.{lexBy, lexToken, lex}
 use Rattle.lexer.proofs.LexLaws.{Shut, taken, Moves, LexLaws}
 use Rattle.lexer.proofs.Fine.{Fine, fine-cond, fine-to, fine-semicolon}
@@ -106,11 +106,14 @@ module _ (m : Bool) (r : List Char) where
 
     law-seam : drop (taken (lex m r)) r ≡ [] → lex m r .mark ≡ false
     unfolding lex
-    law-seam e = go (lexToken m rest .mark) refl
+    law-seam e = go (lexToken m rest .mark) (fine [] .local (kept h k) s .1)
       where
-        go : (b : Bool) → lexToken m rest .mark ≡ b → b ≡ false
-        go true y = absurd (omega (arith, fine [] .local (kept h k) s .1 y, length-drop (skip m r .len) r, taken-is, sym (length-drop (taken (lex m r)) r) ∙ ap length e))
-        go false y = refl
+        all : length r - taken (lex m r) ≡ 0
+        all = sym (length-drop (taken (lex m r)) r) ∙ ap length e
+
+        go : (b : Bool) → (b ≡ true → lexToken m rest .len < length rest) → b ≡ false
+        go true f = absurd (omega (arith, f refl, length-drop (skip m r .len) r, taken-is, all))
+        go false f = refl
 
 law-blank : (m : Bool) (r t : List Char) → lex m r .kind ≡ EOF → lex m (r ++ t) ≡ raise (length r) (lex false t)
 unfolding lex

@@ -1,40 +1,38 @@
 -- The laws of each rule: words, numbers, quoted literals, raw strings, comments, stray characters, operators, points and slashes.
-use Prim.Native.Nat.{ℕ, zero, suc, _+_, _-_, _≤_, _<_}
+use Prim.Native.Nat.{ℕ, suc, _+_, _-_, _≤_, _<_}
 use mathlib.Core.Path.{_≡_, refl, sym, ap, _∙_}
 use mathlib.Core.Bool.{Bool, true, false, cond, not, _&&_, _||_, true≢false}
 use mathlib.Core.List.{List, [], _∷_, _++_}
 use mathlib.Core.Logic.{_≢_}
 use native.Mathlib.Omega.{arith}
-use lib.Dec.{eqb, lit<, lit≤}
-use lib.ListN.{length, take, drop}
+use lib.Dec.{eqb, lit<}
+use lib.ListN.{length, take}
 use lib.Seq.{take-append-le}
 use borrow.Author.Tests.{eqb-true, eqb-false}
 use Rattle.basics.proofs.Choice.{cond-ind, and-split}
 use Rattle.utf8.specs.declared.Char.{Char}
 use Rattle.utf8.specs.Chars.{peek, encoded}
 use Rattle.utf8.proofs.Ends.{Ends, ends-tail, ends-some, peek-append}
-use Rattle.token.specs.Kinds.{ILLEGAL, IDENT, CHAR, STRING, COMMENT}
+use Rattle.token.specs.Kinds.{ILLEGAL, IDENT, COMMENT}
 use Rattle.token.specs.Table.{identToken}
 use Rattle.digits.specs.Digit.{isDecimal}
 use Rattle.words.specs.Word.{isLetter, isWord, wordLen}
 use Rattle.words.proofs.Words.{word-bound, word-local}
 use Rattle.numbers.specs.Number.{number}
-use Rattle.numbers.specs.Spelling.{numberText}
 use Rattle.numbers.proofs.Bound.{number-within}
 use Rattle.numbers.proofs.Local.{number-local}
 use Rattle.numbers.proofs.Progress.{number-some}
 use Rattle.quotes.specs.Body.{Body, body}
 use Rattle.quotes.proofs.Local.{body-bound, body-local}
-use Rattle.bodies.specs.Span.{Span, toStop, toStarSlash}
-use Rattle.bodies.specs.Body.{clean}
+use Rattle.bodies.specs.Span.{toStop, toStarSlash}
 use Rattle.bodies.specs.Line.{endsLine}
-use Rattle.bodies.proofs.Spans.{Spanned, stop-spanned, slash-spanned, stop-local, slash-local, line-closed, stop-left, slash-left}
+use Rattle.bodies.proofs.Spans.{stop-spanned, slash-spanned, stop-local, slash-local, line-closed, stop-left, slash-left}
 use Rattle.bodies.proofs.LineEnds.{ends-local}
 use Rattle.operators.specs.Longest.{operatorOf}
 use Rattle.operators.proofs.Bounds.{operator-bound, operator-local, operator-none}
-use Rattle.lexer.specs.Lexeme.{Lexeme, shown, bare, insertedSemicolon, setsMark}
+use Rattle.lexer.specs.Lexeme.{Lexeme, bare, insertedSemicolon, setsMark}
 use Rattle.lexer.specs.Words.{wordOf, lexWord, lexNumber}
-use Rattle.lexer.specs.Quotes.{stringOf, lexString, charOf, lexChar, rawOf, lexRaw}
+use Rattle.lexer.specs.Quotes.{stringOf, lexString, charOf, lexChar, lexRaw}
 use Rattle.lexer.specs.Comments.{lineComment, generalComment, comment, lexComment}
 use Rattle.lexer.specs.Lex.{lexIllegal, lexOperator, lexDot, lexSlash}
 use Rattle.lexer.proofs.Known.{Known, word-known, operator-known}

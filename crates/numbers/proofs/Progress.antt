@@ -1,17 +1,17 @@
 -- A number that starts with a decimal digit or a point reads some character, and its kind is not EOF.
 use Prim.Native.Nat.{ℕ, _-_, _<_}
-use mathlib.Core.Path.{_≡_, sym, _∙_}
-use mathlib.Core.Bool.{Bool, true, false, cond, _&&_, _||_}
+use mathlib.Core.Path.{_≡_}
+use mathlib.Core.Bool.{true, false, _&&_, _||_}
 use mathlib.Core.List.{List, [], _∷_}
 use mathlib.Core.Logic.{_≢_}
 use native.Mathlib.Omega.{arith}
 use lib.Dec.{leb, eqb, lit<}
 use lib.ListN.{drop}
-use borrow.Author.Tests.{eqb-true, lt-ltb}
+use borrow.Author.Tests.{lt-ltb}
 use Rattle.basics.proofs.Choice.{cond-ind, between-true, in-between}
 use Rattle.utf8.specs.declared.Char.{Char}
 use Rattle.utf8.specs.Chars.{peek}
-use Rattle.token.specs.Kinds.{ILLEGAL, EOF, INT, FLOAT, IMAG}
+use Rattle.token.specs.Kinds.{ILLEGAL, EOF, INT, FLOAT}
 use Rattle.digits.specs.Digit.{digitVal, isDecimal}
 use Rattle.numbers.specs.declared.Spelling.{Spelling}
 use Rattle.numbers.specs.declared.Spelling.the-variants.{AsRead, LowerPrefix, OctalPrefix, LowerExponent}

@@ -72,7 +72,7 @@ numeral-local base l (c ∷ r) t h zero v = refl
 numeral-local base l (c ∷ r) t h (suc n) v =
     ⊎-elim (λ (is : c .code ≡ 10). rw (is, le-ltb 16 base l)) (λ (k : Ends r). rw (numeral-local base l r t k n (v * base + digitVal (c .code)))) (next c r h)
 
-pub escape-local : (quote : ℕ) (r t : List Char) → Ends r → escapeOf quote (r ++ t) ≡ escapeOf quote r
+escape-local : (quote : ℕ) (r t : List Char) → Ends r → escapeOf quote (r ++ t) ≡ escapeOf quote r
 unfolding escapeOf octalEscape hexEscape letter following digitVal
 escape-local quote [] t h = absurd h
 escape-local quote (c ∷ r) t h =
