@@ -1,15 +1,17 @@
--- A body and an escape read characters of the text and no LF, and what stands after an LF does not matter to them.
+-- A body and an escape read characters of the text and no LF; in a text that ends in an LF they are the same with more text behind.
 use Prim.Native.Nat.{ℕ, zero, suc, _+_, _*_, _≤_, _<_, suc-le-suc}
 use mathlib.Core.Path.{_≡_, refl, sym, subst}
 use mathlib.Core.List.{List, [], _∷_, _++_}
+use mathlib.Core.Logic.{_⊎_, inl, inr, ⊎-elim}
 use native.Mathlib.Omega.{arith}
-use native.Mathlib.Nat.{add-zero, zero-add, suc-add, not-suc-le-zero, le-of-suc-le-suc}
+use native.Mathlib.Nat.{add-zero, zero-add, suc-add, le-of-suc-le-suc}
 use lib.Dec.{eqb}
 use lib.ListN.{length, getD}
 use borrow.Author.Tests.{eqb-true, le-ltb}
 use Rattle.basics.proofs.Choice.{cond-ind}
 use Rattle.utf8.specs.declared.Char.{Char}
 use Rattle.utf8.specs.Chars.{ended}
+use Rattle.utf8.proofs.Ends.{Ends, ends-tail, ends-more, ends-some}
 use Rattle.digits.specs.Digit.{digitVal}
 use Rattle.quotes.specs.declared.Given.{Given}
 use Rattle.quotes.specs.declared.Given.the-variants.{Value, Bad}
@@ -52,45 +54,46 @@ NoLf c = c ≡ 10 → ⊥
 pub body-no-lf : (quote : ℕ) → (quote ≡ 10 → ⊥) → (r : List Char) (i : ℕ) → i < body quote r .len → getD r i ended .code ≡ 10 → ⊥
 body-no-lf quote q r = heads-at NoLf _ r (whole NoLf (λ c h. h) quote q r)
 
--- ---- a text u, then an LF
-module _ (lf : Char) (is : lf .code ≡ 10) where
-  before : (n : ℕ) (u t : List Char) → Heads NoLf n (u ++ (lf ∷ t)) → n ≤ length u
-  before zero u t h = omega arith
-  before (suc n) [] t h = absurd (h .0 is)
-  before (suc n) (c ∷ u) t h = suc-le-suc (before n u t (h .1))
+-- ---- in a text that ends in a line feed
+before : (n : ℕ) (r : List Char) → Heads NoLf n r → Ends r → n < length r
+before zero r h e = ends-some r e
+before (suc n) [] h e = absurd e
+before (suc n) (c ∷ r) h e = suc-le-suc (before n r (h .1) (ends-tail c r e (h .0)))
 
-  -- the LF is not read
-  pub escape-before : (quote : ℕ) → (quote ≡ 10 → ⊥) → (u t : List Char) → escapeOf quote (u ++ (lf ∷ t)) .len ≤ length u
-  escape-before quote q u t = before _ u t (in-escape NoLf (λ c h. h) quote q (u ++ (lf ∷ t)))
+-- the next character is that line feed, or it is still to come
+next : (c : Char) (r : List Char) → Ends (c ∷ r) → (c .code ≡ 10) ⊎ Ends r
+next c [] h = inl h
+next c (d ∷ r) h = inr h
 
-  pub body-before : (quote : ℕ) → (quote ≡ 10 → ⊥) → (u t : List Char) → body quote (u ++ (lf ∷ t)) .len ≤ length u
-  body-before quote q u t = before _ u t (whole NoLf (λ c h. h) quote q (u ++ (lf ∷ t)))
+numeral-local : (base : ℕ) → base ≤ 16 → (r t : List Char) → Ends r → (n v : ℕ) → numeral base n v (r ++ t) ≡ numeral base n v r
+unfolding numeral digitVal
+numeral-local base l [] t h n v = absurd h
+numeral-local base l (c ∷ r) t h zero v = refl
+numeral-local base l (c ∷ r) t h (suc n) v =
+    ⊎-elim (λ (is : c .code ≡ 10). rw (is, le-ltb 16 base l)) (λ (k : Ends r). rw (numeral-local base l r t k n (v * base + digitVal (c .code)))) (next c r h)
 
-  -- what follows it may be anything
-  module _ (t w : List Char) where
-    numeral-local : (base : ℕ) → base ≤ 16 → (u : List Char) (n v : ℕ) → numeral base n v (u ++ (lf ∷ t)) ≡ numeral base n v (u ++ (lf ∷ w))
-    unfolding numeral digitVal
-    numeral-local base l [] zero v = refl
-    numeral-local base l [] (suc n) v = rw (is, le-ltb 16 base l)
-    numeral-local base l (c ∷ u) zero v = refl
-    numeral-local base l (c ∷ u) (suc n) v = rw (numeral-local base l u n (v * base + digitVal (c .code)))
+escape-local : (quote : ℕ) (r t : List Char) → Ends r → escapeOf quote (r ++ t) ≡ escapeOf quote r
+unfolding escapeOf octalEscape hexEscape letter following digitVal
+escape-local quote [] t h = absurd h
+escape-local quote (c ∷ r) t h =
+    ⊎-elim (λ (is : c .code ≡ 10). rw is)
+    (λ (k : Ends r). rw (numeral-local 8 (omega arith) (c ∷ r) t h 3 0, numeral-local 16 (omega arith) r t k (following (c .code)) 0)) (next c r h)
 
-    pub escape-local : (quote : ℕ) (u : List Char) → escapeOf quote (u ++ (lf ∷ t)) ≡ escapeOf quote (u ++ (lf ∷ w))
-    unfolding escapeOf octalEscape hexEscape letter following digitVal
-    escape-local quote [] = rw is
-    escape-local quote (c ∷ u) = rw (numeral-local 8 (omega arith) (c ∷ u) 3 0, numeral-local 16 (omega arith) u (following (c .code)) 0)
+module _ (quote : ℕ) (q : quote ≡ 10 → ⊥) where
+  from-local : (r t : List Char) (k : ℕ) → k < length r → Ends r → bodyFrom quote k (r ++ t) ≡ bodyFrom quote k r
+  unfolding bodyFrom
+  from-local [] t k l h = absurd h
+  from-local (c ∷ r) t (suc k) l h = from-local r t k (le-of-suc-le-suc l) (ends-more c r h (omega arith))
+  from-local (c ∷ r) t zero l h =
+      ⊎-elim (λ (is : c .code ≡ 10). rw is)
+      (λ (k : Ends r).
+      rw (
+        escape-local quote r t k,
+        from-local r t (escapeOf quote r .len) (before _ r (in-escape NoLf (λ c n. n) quote q r) k) k,
+        from-local r t 0 (ends-some r k) k,
+      ))
+      (next c r h)
 
-    from-local : (quote : ℕ) → (quote ≡ 10 → ⊥) → (u : List Char) (k : ℕ) → k ≤ length u → bodyFrom quote k (u ++ (lf ∷ t)) ≡ bodyFrom quote k (u ++ (lf ∷ w))
-    unfolding bodyFrom
-    from-local quote q [] zero h = rw is
-    from-local quote q [] (suc k) h = absurd (not-suc-le-zero h)
-    from-local quote q (c ∷ u) (suc k) h = from-local quote q u k (le-of-suc-le-suc h)
-    from-local quote q (c ∷ u) zero h =
-        rw (
-          escape-local quote u,
-          from-local quote q u (escapeOf quote (u ++ (lf ∷ w)) .len) (escape-before quote q u w),
-          from-local quote q u 0 (omega arith),
-        )
-
-    pub body-local : (quote : ℕ) → (quote ≡ 10 → ⊥) → (u : List Char) → body quote (u ++ (lf ∷ t)) ≡ body quote (u ++ (lf ∷ w))
-    body-local quote q u = from-local quote q u 0 (omega arith)
+  -- the body is the same with more text behind, and does not read the line feed
+  pub body-local : (r t : List Char) → Ends r → (body quote (r ++ t) ≡ body quote r) × (body quote r .len < length r)
+  body-local r t h = (from-local r t 0 (ends-some r h) h, before _ r (whole NoLf (λ c n. n) quote q r) h)
