@@ -54,9 +54,6 @@ none-of : (a b : Bool) → a || b ≡ false → (a ≡ false) × (b ≡ false)
 none-of true b e = absurd (true≢false e)
 none-of false b e = (refl, e)
 
-one-of : (a b : ℕ) → eqb a b ≡ true → a ≡ b
-one-of a b e = eqb-true a b e
-
 module _ (mark : Bool) (s : List ℕ) (at : ℕ) where
   -- ---- past the end
   pub end-marked : length s ≤ at → mark ≡ true → insertedSemicolon ≡ lexToken mark (chars (drop at s))
@@ -117,3 +114,34 @@ module _ (mark : Bool) (s : List ℕ) (at : ℕ) where
         let q = and-split (eqb (getD s at 0) 47) _ t in
         let e = eqb-true (getD s at 0) 47 (q .0) in
         rw (e, slash-bytes e, q .1)
+
+    pub points-is : eqb (getD s at 0) 46 && (eqb (getD s (at + 1) 0) 46 && not (eqb (getD s (at + 2) 0) 46)) ≡ true → isDecimal (getD s (at + 1) 0) ≡ false
+        → lexIllegal mark 2 (chars (drop at s)) ≡ otherBy mark (getD s at 0) (chars (drop at s))
+    points-is t n =
+        let q = and-split (eqb (getD s at 0) 46) _ t in
+        let e = eqb-true (getD s at 0) 46 (q .0) in
+        rw (e, dot-bytes e, n, q .1)
+
+    -- what the code has tested
+    module _ (no-number : eqb (getD s at 0) 46 && isDecimal (getD s (at + 1) 0) ≡ false)
+        (no-comment : eqb (getD s at 0) 47 && (eqb (getD s (at + 1) 0) 47 || eqb (getD s (at + 1) 0) 42) ≡ false)
+        (no-points : eqb (getD s at 0) 46 && (eqb (getD s (at + 1) 0) 46 && not (eqb (getD s (at + 2) 0) 46)) ≡ false)
+        where
+      pub operator-is : lexOperator mark (chars (drop at s)) ≡ otherBy mark (getD s at 0) (chars (drop at s))
+      operator-is =
+          ⊎-elim
+          (λ (t : eqb (getD s at 0) 46 ≡ true).
+          let e = eqb-true (getD s at 0) 46 t in rw (t, dot-bytes e, rw t at no-number, rw t at no-points))
+          (λ (t : eqb (getD s at 0) 46 ≡ false).
+          ⊎-elim
+          (λ (u : eqb (getD s at 0) 47 ≡ true).
+          let e = eqb-true (getD s at 0) 47 u in rw (t, u, slash-bytes e, rw u at no-comment))
+          (λ (u : eqb (getD s at 0) 47 ≡ false). rw (t, u)) (either (eqb (getD s at 0) 47)))
+          (either (eqb (getD s at 0) 46))
+
+    -- ---- the rule of a token
+    pub word-is : isLetter (getD s at 0) ≡ true → lexWord (chars (drop at s)) ≡ lexToken mark (chars (drop at s))
+    word-is e = sym (by-byte ∙ by-letter (getD s at 0) (chars (drop at s)) e)
+      where
+        by-letter : (b : ℕ) (r : List Char) → isLetter b ≡ true → lexBy mark b r ≡ lexWord r
+        by-letter b r e = unfold lexBy in rw e

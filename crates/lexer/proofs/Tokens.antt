@@ -8,7 +8,7 @@ use native.Mathlib.Omega.{arith}
 use native.Mathlib.Nat.{add-zero, not-suc-le-zero}
 use lib.Dec.{T, leb, ltb, eqb, lit<}
 use lib.ListN.{length, getD, take, drop, length-drop}
-use lib.Seq.{length-take-le}
+use lib.Seq.{length-take-le, take-all}
 use borrow.Author.Tests.{ne-eqb, eq-eqb, eqb-true, ltb-true}
 use Rattle.token.proofs.Ranges.{true-of}
 use Rattle.basics.specs.Same.{same}
@@ -16,7 +16,7 @@ use Rattle.basics.proofs.Choice.{cond-ind, either, and-left, and-right, and-spl
 use Rattle.basics.proofs.Lists.{same-refl, same-length}
 use Rattle.utf8.specs.declared.Char.{Char}
 use Rattle.utf8.specs.Chars.{ended, firstChar, charAt, chars, widths, isStray, encode, encoded}
-use Rattle.utf8.proofs.First.{chars-at, charAt-in, first-fits, first-fits-at}
+use Rattle.utf8.proofs.First.{chars-at, charAt-in, chars-le, first-fits}
 use Rattle.utf8.proofs.Places.{code-there}
 use Rattle.utf8.proofs.Encoding.{first-coded}
 use Rattle.token.specs.Kinds.{ILLEGAL, IDENT, STRING}
@@ -26,6 +26,7 @@ use Rattle.words.proofs.Words.{word-bound, word-ascii}
 use Rattle.quotes.proofs.Places.{stray-there}
 use Rattle.operators.specs.declared.Operator.{Operator}
 use Rattle.operators.specs.Longest.{begins, longest, operatorOf}
+use Rattle.operators.proofs.Bounds.{operator-bound}
 use Rattle.lexer.specs.declared.lexed.Text.the-variants.{Empty, AsRead}
 use Rattle.lexer.specs.declared.lexed.Value.the-variants.{Empty as NoValue}
 use Rattle.lexer.specs.declared.lexed.Lexed.{Lexed}
@@ -107,7 +108,7 @@ unfolding wordOf
 keyword-is n word i =
     let k = identToken word in sym (ap (λ t. cond t (shown IDENT n word 0 true) (bare k n (setsMark k))) (ne-eqb k IDENT i))
 
-module _ (s : List ℕ) (at end kind : ℕ) (e : end ≡ at + wordLen (chars (drop at s))) (is : kind ≡ identToken (take (end - at) (drop at s))) where
+module _ (s : List ℕ) (at end kind : ℕ) (e : end ≡ at + wordLen (chars (drop at s))) (is : kind ≡ identToken (take (end - at) (take (length s - at) (drop at s)))) where
   n : ℕ
   n = wordLen (chars (drop at s))
 
@@ -119,7 +120,7 @@ module _ (s : List ℕ) (at end kind : ℕ) (e : end ≡ at + wordLen (chars (dr
   word-kind =
       let r = chars (drop at s) in
       let l : end - at ≡ wordLen r = omega (arith, e) in
-      is ∙ rw l (ap identToken (sym (ascii-facts (wordLen r) s at (word-plain r) .shown)))
+      is ∙ rw (l, take-all (length s - at) (drop at s) (omega (arith, length-drop at s))) (ap identToken (sym (ascii-facts (wordLen r) s at (word-plain r) .shown)))
 
   no-string : kind ≢ STRING
   no-string z = word-no-string word (sym word-kind ∙ z)
@@ -180,6 +181,11 @@ module _ (s : List ℕ) (at : ℕ) (mark : Bool) (o : Operator) (is : o ≡ oper
   pub no-operator : o .kind ≡ ILLEGAL → lexIllegal mark 1 (chars (drop at s)) ≡ lexOperator mark (chars (drop at s))
   unfolding lexOperator
   no-operator i = rw (← is, eq-eqb (o .kind) ILLEGAL i)
+
+  pub operator-fits : at ≤ length s → at + o .len ≤ length s
+  operator-fits h =
+      let r = chars (drop at s) in
+      rw is (omega (arith, operator-bound r, chars-le (drop at s), length-drop at s, h))
 
   pub operator-said : o .kind ≢ ILLEGAL → said s at (madeAt (o .kind) at (at + o .len) (setsMark (o .kind)) Empty NoValue) ≡ placed s at (lexOperator mark (chars (drop at s)))
   unfolding lexOperator

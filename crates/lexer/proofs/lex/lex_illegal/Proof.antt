@@ -1,0 +1,40 @@
+-- `lexer::lex::lex_illegal` meets its contract: one character, a stray byte or not.
+use mathlib.Core.Path.{sym, _∙_}
+use mathlib.Core.Bool.{true, false}
+use native.Mathlib.Omega.{arith}
+use Rattle.utf8.proofs.First.{there-fits}
+use Rattle.lexer.proofs.Tokens.{illegal-said}
+use borrow.Author.Needs.{needs}
+use Rattle.lexer.proofs.lex.lex_illegal.Statement.{statement}
+use Rattle.lexer.proofs.lex.lex_illegal.Tie as tie
+
+char-at-requires : tie.Need-char-at-requires
+char-at-requires c κs = search needs
+
+add-shown : tie.Need-add-shown
+add-shown c =
+    let a = c .before .before .before .args in
+    omega (arith, there-fits (a .src .now) (a .at) (c .before .char-at .result) (search needs) (c .before .char-at .ensures))
+
+shown-requires : tie.Need-shown-requires
+shown-requires c κs = search needs
+
+is-stray-requires : tie.Need-is-stray-requires
+is-stray-requires c κs = search needs
+
+returns : tie.Need-returns
+returns c =
+    let a = c .before .before .before .before .before .before .args in
+    rw (c .before .before .shown .ensures)
+    (illegal-said (a .src .now) (a .at) (search needs) (a .mark) (search needs) (c .before .before .before .before .char-at .result) true (c .before .before .before .before .char-at .ensures) (sym (c .before .is-stray .ensures) ∙ c .if1 .taken))
+
+returns-2 : tie.Need-returns-2
+returns-2 c =
+    let a = c .before .before .before .before .before .before .args in
+    rw (c .before .before .shown .ensures)
+    (illegal-said (a .src .now) (a .at) (search needs) (a .mark) (search needs) (c .before .before .before .before .char-at .result) false (c .before .before .before .before .char-at .ensures) (sym (c .before .is-stray .ensures) ∙ c .if1 .left))
+
+pub lex-illegal-spec : {M : Type 1} → statement M
+lex-illegal-spec =
+    tie.close
+    (tie.spec char-at-requires add-shown shown-requires is-stray-requires returns returns-2)
