@@ -1,22 +1,25 @@
 -- Tokens of ASCII characters, no line feed among them: they take a byte each, and their text is the bytes read.
 use Prim.Native.Nat.{ℕ, zero, suc, _+_, _≤_, _<_}
-use mathlib.Core.Path.{_≡_, refl, ap, ap₂, _∙_}
-use mathlib.Core.Bool.{false}
-use mathlib.Core.List.{List, [], _∷_, _++_}
+use mathlib.Core.Path.{_≡_, refl, ap}
+use mathlib.Core.List.{List, [], _∷_}
 use mathlib.Core.Logic.{_≢_}
 use native.Mathlib.Omega.{arith}
 use native.Mathlib.Decide.{decLt}
+use native.Mathlib.Nat.{not-suc-le-zero}
 use lib.ListN.{length, getD, take, drop}
 use borrow.Author.Tests.{lt-ltb, ne-eqb}
 use Rattle.basics.proofs.Lists.{drop-next}
 use Rattle.utf8.specs.declared.Char.{Char}
 use Rattle.utf8.specs.Chars.{ended, chars, widths, isStray, octets, encode, encoded}
-use Rattle.utf8.proofs.First.{ascii, chars-at, chars-end, chars-ascii, there-high}
+use Rattle.utf8.proofs.First.{chars-at, chars-end, chars-ascii, there-high}
 use Rattle.bodies.specs.Body.{isLf, count}
 
 -- the first n characters are ASCII, and none is a line feed
 abbrev pub Ascii : ℕ → List Char → Type 0
 Ascii n r = (n ≤ length r) × ((i : ℕ) → i < n → (getD r i ended .code < 0x80) × (getD r i ended .code ≢ 10))
+
+pub ascii-none : (r : List Char) → Ascii 0 r
+ascii-none r = (omega arith, λ i h. absurd (not-suc-le-zero h))
 
 -- what follows for n characters at a place
 pub record AsciiFacts (n : ℕ) (s : List ℕ) (p : ℕ) : Type 0 where

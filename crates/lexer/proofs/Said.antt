@@ -1,7 +1,7 @@
 -- An answer says what a lexeme is at its place: field by field.
 use Prim.Native.Nat.{ℕ, _+_, _*_, _-_}
 use mathlib.Core.Path.{_≡_, refl, sym}
-use mathlib.Core.Bool.{Bool, not}
+use mathlib.Core.Bool.{not}
 use mathlib.Core.List.{List}
 use native.Mathlib.Nat.{add-zero, sub-self}
 use lib.ListN.{length, take, drop}
@@ -12,7 +12,7 @@ use Rattle.bodies.specs.Body.{isLf, count}
 use Rattle.lexer.specs.declared.lexed.Lexed.{Lexed}
 use Rattle.lexer.specs.Lexeme.{Lexeme, insertedSemicolon}
 use Rattle.lexer.specs.Made.{insertedAt}
-use Rattle.lexer.specs.Placed.{Placed, textOf, valueOf, textDiffersIn, valueRead, placedIn, placed, said}
+use Rattle.lexer.specs.Placed.{textOf, valueOf, textDiffersIn, valueRead, placed, said}
 
 -- the lexeme that an answer tells, of the characters from its place on
 abbrev pub told : List Char → Lexed → Lexeme

@@ -1,6 +1,6 @@
 -- What is said of words, operators and characters that start no token is right.
-use Prim.Native.Nat.{ℕ, zero, suc, _+_, _-_, _*_, _≤_, _<_}
-use mathlib.Core.Path.{_≡_, refl, sym, ap, ap₂, _∙_}
+use Prim.Native.Nat.{ℕ, zero, suc, _+_, _-_, _≤_, _<_}
+use mathlib.Core.Path.{_≡_, refl, sym, ap, _∙_}
 use mathlib.Core.Bool.{Bool, true, false, cond, not, _&&_, false≢true, true≢false}
 use mathlib.Core.List.{List, [], _∷_, _++_, append-nil}
 use mathlib.Core.Logic.{_≢_, ⊎-elim}
@@ -10,7 +10,6 @@ use lib.Dec.{T, leb, ltb, eqb, lit<}
 use lib.ListN.{length, getD, take, drop, length-drop}
 use lib.Seq.{length-take-le, take-all}
 use borrow.Author.Tests.{ne-eqb, eq-eqb, eqb-true, ltb-true}
-use Rattle.token.proofs.Ranges.{true-of}
 use Rattle.basics.specs.Same.{same}
 use Rattle.basics.proofs.Choice.{cond-ind, either, and-left, and-right, and-split}
 use Rattle.basics.proofs.Lists.{same-refl, same-length}
@@ -21,6 +20,7 @@ use Rattle.utf8.proofs.Places.{code-there}
 use Rattle.utf8.proofs.Encoding.{first-coded}
 use Rattle.token.specs.Kinds.{ILLEGAL, IDENT, STRING}
 use Rattle.token.specs.Table.{Row, operators, identToken}
+use Rattle.token.proofs.Ranges.{true-of}
 use Rattle.words.specs.Word.{isLetter, isWord, wordLen}
 use Rattle.words.proofs.Words.{word-bound, word-ascii}
 use Rattle.quotes.proofs.Places.{stray-there}
@@ -37,9 +37,9 @@ use Rattle.lexer.specs.Made.{madeAt, shownAt}
 use Rattle.lexer.specs.Placed.{textDiffersIn, placed, said}
 use Rattle.lexer.proofs.Known.{word-no-string, operator-no-string}
 use Rattle.lexer.proofs.Said.{right-said}
-use Rattle.lexer.proofs.Ascii.{Ascii, ascii-facts}
+use Rattle.lexer.proofs.Ascii.{Ascii, ascii-none, ascii-facts}
 
--- a text differs from no bytes but others
+-- a text that is the bytes read does not differ from them
 pub text-same : (text bytes : List ℕ) → text ≡ bytes → textDiffersIn text bytes ≡ false
 text-same [] bytes e = refl
 text-same (b ∷ text) bytes e = rw (← e, same-refl (b ∷ text))
@@ -144,7 +144,7 @@ plain (x ∷ xs) = ltb x 0x80 && (not (eqb x 10) && plain xs)
 
 begins-plain : (xs : List ℕ) (r : List Char) → T (plain xs) → begins xs r ≡ true → Ascii (length xs) r
 unfolding begins
-begins-plain [] r t b = (omega arith, λ i h. absurd (not-suc-le-zero h))
+begins-plain [] r t b = ascii-none r
 begins-plain (x ∷ xs) [] t b = absurd (false≢true b)
 begins-plain (x ∷ xs) (c ∷ r) t b =
     let q = and-split (eqb (c .code) x) (begins xs r) b in
@@ -165,7 +165,7 @@ allPlain (row ∷ rows) = plain (row .name) && allPlain rows
 
 longest-plain : (rows : List Row) (r : List Char) → T (allPlain rows) → Ascii (longest rows r .len) r
 unfolding longest
-longest-plain [] r t = (omega arith, λ i h. absurd (not-suc-le-zero h))
+longest-plain [] r t = ascii-none r
 longest-plain (row ∷ rows) r t =
     let P : Operator → Type 0 = λ x. Ascii (x .len) r in
     let rest = longest-plain rows r (and-right (plain (row .name)) (allPlain rows) t) in

@@ -2,9 +2,9 @@
 use mathlib.Core.Path.{sym, _∙_}
 use mathlib.Core.Bool.{true, false}
 use native.Mathlib.Omega.{arith}
+use borrow.Author.Needs.{needs}
 use Rattle.utf8.proofs.First.{there-fits}
 use Rattle.lexer.proofs.Tokens.{illegal-said}
-use borrow.Author.Needs.{needs}
 use Rattle.lexer.proofs.lex.lex_illegal.Statement.{statement}
 use Rattle.lexer.proofs.lex.lex_illegal.Tie as tie
 

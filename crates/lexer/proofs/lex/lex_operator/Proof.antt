@@ -1,9 +1,9 @@
 -- `lexer::lex::lex_operator` meets its contract: an operator, or a character that starts none.
 use mathlib.Core.Path.{ap, _∙_}
 use native.Mathlib.Omega.{arith}
+use borrow.Author.Needs.{needs}
 use Rattle.lexer.specs.Placed.{said, placed}
 use Rattle.lexer.proofs.Tokens.{operator-fits, operator-said, no-operator}
-use borrow.Author.Needs.{needs}
 use Rattle.lexer.proofs.lex.lex_operator.Statement.{statement}
 use Rattle.lexer.proofs.lex.lex_operator.Tie as tie
 

@@ -1,8 +1,8 @@
 -- `lexer::word::lex_word` meets its contract: an identifier or a keyword.
 use mathlib.Core.Path.{ap, _∙_}
+use borrow.Author.Needs.{needs}
 use Rattle.lexer.specs.Placed.{said}
 use Rattle.lexer.proofs.Tokens.{identifier-said, keyword-said}
-use borrow.Author.Needs.{needs}
 use Rattle.lexer.proofs.word.lex_word.Statement.{statement}
 use Rattle.lexer.proofs.word.lex_word.Tie as tie
 

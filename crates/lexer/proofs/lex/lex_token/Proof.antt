@@ -1,0 +1,155 @@
+-- `lexer::lex::lex_token` meets its contract: at the end, and by the first byte.
+use mathlib.Core.Path.{sym, ap, _∙_}
+use mathlib.Core.Bool.{false}
+use native.Mathlib.Omega.{arith}
+use native.Mathlib.Nat.{add-zero}
+use lib.ListN.{getD, drop}
+use borrow.Author.Tests.{ne-eqb}
+use borrow.Author.Needs.{needs}
+use Rattle.utf8.specs.Chars.{chars}
+use Rattle.token.specs.Kinds.{EOF}
+use Rattle.digits.specs.Digit.{isDecimal}
+use Rattle.lexer.specs.Placed.{said, placed}
+use Rattle.lexer.proofs.Said.{semicolon-said}
+use Rattle.lexer.proofs.Ascii.{ascii-none}
+use Rattle.lexer.proofs.Tokens.{bare-said}
+use Rattle.lexer.proofs.Dispatch.{none-of, end-marked, end-unmarked, word-is, number-is, feed-is, string-is, char-is, raw-is, other-is}
+use Rattle.lexer.proofs.lex.lex_token.Statement.{statement}
+use Rattle.lexer.proofs.lex.lex_token.Tie as tie
+
+inserted-semicolon-requires : tie.Need-inserted-semicolon-requires
+inserted-semicolon-requires c κs = search needs
+
+returns : tie.Need-returns
+returns c =
+    let a = c .before .before .before .before .args in
+    ap (said (a .src .now) (a .at)) (c .inserted-semicolon .ensures) ∙ semicolon-said (a .src .now) (a .at)
+    ∙ ap (placed (a .src .now) (a .at)) (end-marked (a .mark) (a .src .now) (a .at) (c .before .before .if1 .taken) (c .before .if2 .taken))
+
+bare-requires : tie.Need-bare-requires
+bare-requires c κs = search needs
+
+returns-2 : tie.Need-returns-2
+returns-2 c =
+    let a = c .before .before .before .before .args in
+    ap (said (a .src .now) (a .at)) (c .bare .ensures)
+    ∙ bare-said (a .src .now) (a .at) (a .at) 0 EOF false (ascii-none (chars (drop (a .at) (a .src .now)))) (sym (add-zero (a .at))) (λ e. omega arith)
+    ∙ ap (placed (a .src .now) (a .at)) (end-unmarked (a .mark) (a .src .now) (a .at) (c .before .before .if1 .taken) (c .before .if2 .left))
+
+shared-slice-read-first : tie.Need-shared-slice-read-first
+shared-slice-read-first c = search needs
+
+add-byte : tie.Need-add-byte
+add-byte c = search needs
+
+byte-requires : tie.Need-byte-requires
+byte-requires c κs = search needs
+
+is-letter-requires : tie.Need-is-letter-requires
+is-letter-requires c κs = search needs
+
+lex-word-requires : tie.Need-lex-word-requires
+lex-word-requires c κs = search needs
+
+returns-3 : tie.Need-returns-3
+returns-3 c =
+    let a = c .before .before .before .before .before .before .before .args in
+    let h = c .before .before .before .before .before .if1 .left in
+    c .lex-word .ensures ∙ ap (placed (a .src .now) (a .at)) (word-is (a .mark) (a .src .now) (a .at) h (sym (c .before .before .is-letter .ensures) ∙ c .before .if3 .taken))
+
+starts-number-requires : tie.Need-starts-number-requires
+starts-number-requires c κs = search needs
+
+lex-number-requires : tie.Need-lex-number-requires
+lex-number-requires c κs = search needs
+
+returns-4 : tie.Need-returns-4
+returns-4 c =
+    let a = c .before .before .before .before .before .before .before .before .before .args in
+    let h = c .before .before .before .before .before .before .before .if1 .left in
+    c .lex-number .ensures
+    ∙ ap (placed (a .src .now) (a .at)) (number-is (a .mark) (a .src .now) (a .at) h (c .before .before .before .before .before .byte .result) (sym (c .before .before .before .before .before .byte .ensures))
+    (sym (c .before .before .before .before .is-letter .ensures) ∙ c .before .before .before .if3 .left) (sym (c .before .before .starts-number .ensures) ∙ c .before .if4 .taken))
+
+inserted-semicolon-requires-2 : tie.Need-inserted-semicolon-requires-2
+inserted-semicolon-requires-2 c κs = search needs
+
+lex-string-requires : tie.Need-lex-string-requires
+lex-string-requires c κs = search needs
+
+lex-char-requires : tie.Need-lex-char-requires
+lex-char-requires c κs = search needs
+
+lex-raw-requires : tie.Need-lex-raw-requires
+lex-raw-requires c κs = search needs
+
+lex-other-requires : tie.Need-lex-other-requires
+lex-other-requires c κs =
+    let a = c .before .before .before .before .before .before .before .before .before .args in
+    let first = getD (a .src .now) (a .at) 0 in
+    let n = none-of (isDecimal first) _ (sym (c .before .before .starts-number .ensures) ∙ c .before .if4 .left) in
+    (c .before .before .before .before .before .before .before .if1 .left, ne-eqb first 10 (c .match .rest .0 .0 .0 .1), sym (c .before .before .before .before .before .byte .ensures), n .1)
+
+returns-5 : tie.Need-returns-5
+returns-5 c =
+    let a = c .before .before .before .before .before .before .before .before .before .before .args in
+    let h = c .before .before .before .before .before .before .before .before .if1 .left in
+    ap (said (a .src .now) (a .at)) (c .inserted-semicolon2 .ensures) ∙ semicolon-said (a .src .now) (a .at)
+    ∙ ap (placed (a .src .now) (a .at)) (feed-is (a .mark) (a .src .now) (a .at) h (c .before .match .keys1))
+
+returns-6 : tie.Need-returns-6
+returns-6 c =
+    let a = c .before .before .before .before .before .before .before .before .before .before .args in
+    let h = c .before .before .before .before .before .before .before .before .if1 .left in
+    c .lex-string .ensures ∙ ap (placed (a .src .now) (a .at)) (string-is (a .mark) (a .src .now) (a .at) h (c .before .match .keys2))
+
+returns-7 : tie.Need-returns-7
+returns-7 c =
+    let a = c .before .before .before .before .before .before .before .before .before .before .args in
+    let h = c .before .before .before .before .before .before .before .before .if1 .left in
+    c .lex-char .ensures ∙ ap (placed (a .src .now) (a .at)) (char-is (a .mark) (a .src .now) (a .at) h (c .before .match .keys3))
+
+returns-8 : tie.Need-returns-8
+returns-8 c =
+    let a = c .before .before .before .before .before .before .before .before .before .before .args in
+    let h = c .before .before .before .before .before .before .before .before .if1 .left in
+    c .lex-raw .ensures ∙ ap (placed (a .src .now) (a .at)) (raw-is (a .mark) (a .src .now) (a .at) h (c .before .match .keys4))
+
+returns-9 : tie.Need-returns-9
+returns-9 c =
+    let a = c .before .before .before .before .before .before .before .before .before .before .args in
+    let h = c .before .before .before .before .before .before .before .before .if1 .left in
+    let first = getD (a .src .now) (a .at) 0 in
+    let n = none-of (isDecimal first) _ (sym (c .before .before .before .starts-number .ensures) ∙ c .before .before .if4 .left) in
+    let r = c .before .match .rest in
+    c .lex-other .ensures
+    ∙ ap (placed (a .src .now) (a .at)) (other-is (a .mark) (a .src .now) (a .at) h (sym (c .before .before .before .before .before .is-letter .ensures) ∙ c .before .before .before .before .if3 .left) (n .0)
+    (r .0 .0 .0 .1) (r .0 .0 .1) (r .0 .1) (r .1))
+
+pub lex-token-spec : {M : Type 1} → statement M
+lex-token-spec =
+    tie.close
+    (tie.spec
+    inserted-semicolon-requires
+    returns
+    bare-requires
+    returns-2
+    shared-slice-read-first
+    add-byte
+    byte-requires
+    is-letter-requires
+    lex-word-requires
+    returns-3
+    starts-number-requires
+    lex-number-requires
+    returns-4
+    inserted-semicolon-requires-2
+    lex-string-requires
+    lex-char-requires
+    lex-raw-requires
+    lex-other-requires
+    returns-5
+    returns-6
+    returns-7
+    returns-8
+    returns-9)
