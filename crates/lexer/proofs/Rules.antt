@@ -19,9 +19,8 @@ use Rattle.digits.specs.Digit.{isDecimal}
 use Rattle.words.specs.Word.{isLetter, isWord, wordLen}
 use Rattle.words.proofs.Words.{word-bound, word-local}
 use Rattle.numbers.specs.Number.{number}
-use Rattle.numbers.proofs.Bound.{number-within}
 use Rattle.numbers.proofs.Local.{number-local}
-use Rattle.numbers.proofs.Progress.{number-some}
+use Rattle.numbers.proofs.Tested.{number-within, number-some}
 use Rattle.quotes.specs.Body.{Body, body}
 use Rattle.quotes.proofs.Local.{body-bound, body-local}
 use Rattle.bodies.specs.Span.{toStop, toStarSlash}
