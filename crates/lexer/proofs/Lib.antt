@@ -5,3 +5,4 @@ pub mod Fine
 pub mod Rules
 pub mod Laws
 pub mod Said
+pub mod Ascii
