@@ -6,3 +6,5 @@ pub mod Rules
 pub mod Laws
 pub mod Said
 pub mod Ascii
+pub mod Tokens
+pub mod Dispatch

@@ -1,15 +1,17 @@
 -- An answer says what a lexeme is at its place: field by field.
 use Prim.Native.Nat.{ℕ, _+_, _*_, _-_}
-use mathlib.Core.Path.{_≡_}
+use mathlib.Core.Path.{_≡_, refl, sym}
 use mathlib.Core.Bool.{Bool, not}
 use mathlib.Core.List.{List}
+use native.Mathlib.Nat.{add-zero, sub-self}
 use lib.ListN.{length, take, drop}
 use Rattle.basics.specs.Same.{same}
 use Rattle.utf8.specs.declared.Char.{Char}
 use Rattle.utf8.specs.Chars.{chars, widths, isStray}
 use Rattle.bodies.specs.Body.{isLf, count}
 use Rattle.lexer.specs.declared.lexed.Lexed.{Lexed}
-use Rattle.lexer.specs.Lexeme.{Lexeme}
+use Rattle.lexer.specs.Lexeme.{Lexeme, insertedSemicolon}
+use Rattle.lexer.specs.Made.{insertedAt}
 use Rattle.lexer.specs.Placed.{Placed, textOf, valueOf, textDiffersIn, valueRead, placedIn, placed, said}
 
 -- the lexeme that an answer tells, of the characters from its place on
@@ -53,3 +55,19 @@ right-said s at x y h =
       textDiffers = h .textDiffers i;
       valueDiffers = h .valueDiffers i;
     }
+
+-- an inserted semicolon reads nothing
+pub semicolon-said : (s : List ℕ) (at : ℕ) → said s at (insertedAt at) ≡ placed s at insertedSemicolon
+unfolding same
+semicolon-said s at =
+    right-said s at (insertedAt at) insertedSemicolon
+    (record {
+      lexeme = rw (sub-self at);
+      end = sym (add-zero at);
+      lfs = refl;
+      strays = refl;
+      textBytes = refl;
+      valueBytes = refl;
+      textDiffers = refl;
+      valueDiffers = refl;
+    })

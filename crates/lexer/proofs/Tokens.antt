@@ -1,0 +1,255 @@
+-- What is said of words, operators and characters that start no token is right.
+use Prim.Native.Nat.{ℕ, zero, suc, _+_, _-_, _*_, _≤_, _<_}
+use mathlib.Core.Path.{_≡_, refl, sym, ap, ap₂, _∙_}
+use mathlib.Core.Bool.{Bool, true, false, cond, not, _&&_, false≢true, true≢false}
+use mathlib.Core.List.{List, [], _∷_, _++_, append-nil}
+use mathlib.Core.Logic.{_≢_, ⊎-elim}
+use native.Mathlib.Omega.{arith}
+use native.Mathlib.Nat.{add-zero, not-suc-le-zero}
+use lib.Dec.{T, leb, ltb, eqb, lit<}
+use lib.ListN.{length, getD, take, drop, length-drop}
+use lib.Seq.{length-take-le}
+use borrow.Author.Tests.{ne-eqb, eq-eqb, eqb-true, ltb-true}
+use Rattle.token.proofs.Ranges.{true-of}
+use Rattle.basics.specs.Same.{same}
+use Rattle.basics.proofs.Choice.{cond-ind, either, and-left, and-right, and-split}
+use Rattle.basics.proofs.Lists.{same-refl, same-length}
+use Rattle.utf8.specs.declared.Char.{Char}
+use Rattle.utf8.specs.Chars.{ended, firstChar, charAt, chars, widths, isStray, encode, encoded}
+use Rattle.utf8.proofs.First.{chars-at, charAt-in, first-fits, first-fits-at}
+use Rattle.utf8.proofs.Places.{code-there}
+use Rattle.utf8.proofs.Encoding.{first-coded}
+use Rattle.token.specs.Kinds.{ILLEGAL, IDENT, STRING}
+use Rattle.token.specs.Table.{Row, operators, identToken}
+use Rattle.words.specs.Word.{isLetter, isWord, wordLen}
+use Rattle.words.proofs.Words.{word-bound, word-ascii}
+use Rattle.quotes.proofs.Places.{stray-there}
+use Rattle.operators.specs.declared.Operator.{Operator}
+use Rattle.operators.specs.Longest.{begins, longest, operatorOf}
+use Rattle.lexer.specs.declared.lexed.Text.the-variants.{Empty, AsRead}
+use Rattle.lexer.specs.declared.lexed.Value.the-variants.{Empty as NoValue}
+use Rattle.lexer.specs.declared.lexed.Lexed.{Lexed}
+use Rattle.lexer.specs.Lexeme.{shown, bare, setsMark}
+use Rattle.lexer.specs.Words.{wordOf, lexWord}
+use Rattle.lexer.specs.Lex.{lexIllegal, lexOperator}
+use Rattle.lexer.specs.Made.{madeAt, shownAt}
+use Rattle.lexer.specs.Placed.{textDiffersIn, placed, said}
+use Rattle.lexer.proofs.Known.{word-no-string, operator-no-string}
+use Rattle.lexer.proofs.Said.{right-said}
+use Rattle.lexer.proofs.Ascii.{Ascii, ascii-facts}
+
+-- a text differs from no bytes but others
+pub text-same : (text bytes : List ℕ) → text ≡ bytes → textDiffersIn text bytes ≡ false
+text-same [] bytes e = refl
+text-same (b ∷ text) bytes e = rw (← e, same-refl (b ∷ text))
+
+-- ---- tokens of n ASCII characters
+module _ (s : List ℕ) (at end n kind : ℕ) (mark : Bool) (a : Ascii n (chars (drop at s))) (e : end ≡ at + n) (k : kind ≢ STRING) where
+  read : end - at ≡ n
+  read = omega (arith, e)
+
+  pub bare-said : said s at (madeAt kind at end mark Empty NoValue) ≡ placed s at (bare kind n mark)
+  unfolding same
+  bare-said =
+      let f = ascii-facts n s at a in
+      right-said s at (madeAt kind at end mark Empty NoValue) (bare kind n mark)
+      (record {
+        lexeme = rw read;
+        end = rw (f .width) e;
+        lfs = sym (f .lfs);
+        strays = sym (f .strays);
+        textBytes = rw (f .strays);
+        valueBytes = rw (f .strays);
+        textDiffers = refl;
+        valueDiffers = rw (ne-eqb kind STRING k);
+      })
+
+  pub shown-said : said s at (shownAt kind at end mark) ≡ placed s at (shown kind n (encoded (take n (chars (drop at s)))) 0 mark)
+  unfolding same
+  shown-said =
+      let f = ascii-facts n s at a in
+      let text = encoded (take n (chars (drop at s))) in
+      right-said s at (shownAt kind at end mark) (shown kind n text 0 mark)
+      (record {
+        lexeme = rw read;
+        end = rw (f .width) e;
+        lfs = sym (f .lfs);
+        strays = sym (f .strays);
+        textBytes = rw (read, f .strays, f .size) (omega arith);
+        valueBytes = rw (f .strays);
+        textDiffers = sym (text-same text (take (widths (take n (chars (drop at s)))) (drop at s)) (rw (f .width) (f .shown)));
+        valueDiffers = rw (ne-eqb kind STRING k);
+      })
+
+-- ---- words
+no-feed : (r : List Char) (i : ℕ) → i < wordLen r → getD r i ended .code ≢ 10
+unfolding wordLen
+no-feed [] i h = absurd (not-suc-le-zero h)
+no-feed (c ∷ r) i h = go i (isWord (c .code)) refl h (no-feed r)
+  where
+    feed : isWord 10 ≡ false
+    feed = unfold isWord isLetter in refl
+
+    go : (i : ℕ) (t : Bool) → isWord (c .code) ≡ t → i < cond t (suc (wordLen r)) 0 → ((k : ℕ) → k < wordLen r → getD r k ended .code ≢ 10) → getD (c ∷ r) i ended .code ≢ 10
+    go i false e h ih = absurd (not-suc-le-zero h)
+    go zero true e h ih = λ z. true≢false (sym e ∙ ap isWord z ∙ feed)
+    go (suc i) true e h ih = ih i (omega arith)
+
+word-plain : (r : List Char) → Ascii (wordLen r) r
+word-plain r = (word-bound r, λ i h. (word-ascii r i h, no-feed r i h))
+
+identifier-is : (n : ℕ) (word : List ℕ) → identToken word ≡ IDENT → shown (identToken word) n word 0 true ≡ wordOf n word
+unfolding wordOf
+identifier-is n word i = rw i
+
+keyword-is : (n : ℕ) (word : List ℕ) → identToken word ≢ IDENT → bare (identToken word) n (setsMark (identToken word)) ≡ wordOf n word
+unfolding wordOf
+keyword-is n word i =
+    let k = identToken word in sym (ap (λ t. cond t (shown IDENT n word 0 true) (bare k n (setsMark k))) (ne-eqb k IDENT i))
+
+module _ (s : List ℕ) (at end kind : ℕ) (e : end ≡ at + wordLen (chars (drop at s))) (is : kind ≡ identToken (take (end - at) (drop at s))) where
+  n : ℕ
+  n = wordLen (chars (drop at s))
+
+  word : List ℕ
+  word = encoded (take (wordLen (chars (drop at s))) (chars (drop at s)))
+
+  word-kind : kind ≡ identToken word
+  unfolding word
+  word-kind =
+      let r = chars (drop at s) in
+      let l : end - at ≡ wordLen r = omega (arith, e) in
+      is ∙ rw l (ap identToken (sym (ascii-facts (wordLen r) s at (word-plain r) .shown)))
+
+  no-string : kind ≢ STRING
+  no-string z = word-no-string word (sym word-kind ∙ z)
+
+  pub identifier-said : kind ≡ IDENT → said s at (shownAt kind at end true) ≡ placed s at (lexWord (chars (drop at s)))
+  unfolding n word
+  identifier-said i =
+      shown-said s at end n kind true (word-plain (chars (drop at s))) e no-string
+      ∙ ap (placed s at) (ap (λ k. shown k n word 0 true) word-kind ∙ identifier-is n word (sym word-kind ∙ i))
+
+  pub keyword-said : kind ≢ IDENT → said s at (madeAt kind at end (setsMark kind) Empty NoValue) ≡ placed s at (lexWord (chars (drop at s)))
+  unfolding n word
+  keyword-said i =
+      bare-said s at end n kind (setsMark kind) (word-plain (chars (drop at s))) e no-string
+      ∙ ap (placed s at) (ap (λ k. bare k n (setsMark k)) word-kind ∙ keyword-is n word (λ z. i (word-kind ∙ z)))
+
+-- ---- operators: their spellings are ASCII without a line feed
+abbrev plain : List ℕ → Bool
+plain [] = true
+plain (x ∷ xs) = ltb x 0x80 && (not (eqb x 10) && plain xs)
+
+begins-plain : (xs : List ℕ) (r : List Char) → T (plain xs) → begins xs r ≡ true → Ascii (length xs) r
+unfolding begins
+begins-plain [] r t b = (omega arith, λ i h. absurd (not-suc-le-zero h))
+begins-plain (x ∷ xs) [] t b = absurd (false≢true b)
+begins-plain (x ∷ xs) (c ∷ r) t b =
+    let q = and-split (eqb (c .code) x) (begins xs r) b in
+    let here = eqb-true (c .code) x (q .0) in
+    let low = ltb-true x 0x80 (true-of _ (and-left (ltb x 0x80) _ t)) in
+    let more = and-right (ltb x 0x80) _ t in
+    let rest = begins-plain xs r (and-right (not (eqb x 10)) (plain xs) more) (q .1) in
+    (omega (arith, rest .0), go here low (and-left (not (eqb x 10)) (plain xs) more) (rest .1))
+  where
+    go : c .code ≡ x → x < 0x80 → T (not (eqb x 10)) → ((i : ℕ) → i < length xs → (getD r i ended .code < 0x80) × (getD r i ended .code ≢ 10))
+        → (i : ℕ) → i < suc (length xs) → (getD (c ∷ r) i ended .code < 0x80) × (getD (c ∷ r) i ended .code ≢ 10)
+    go e l n ih zero h = (omega (arith, e, l), λ z. let w = rw (eq-eqb x 10 (sym e ∙ z)) at n in w)
+    go e l n ih (suc i) h = ih i (omega arith)
+
+abbrev allPlain : List Row → Bool
+allPlain [] = true
+allPlain (row ∷ rows) = plain (row .name) && allPlain rows
+
+longest-plain : (rows : List Row) (r : List Char) → T (allPlain rows) → Ascii (longest rows r .len) r
+unfolding longest
+longest-plain [] r t = (omega arith, λ i h. absurd (not-suc-le-zero h))
+longest-plain (row ∷ rows) r t =
+    let P : Operator → Type 0 = λ x. Ascii (x .len) r in
+    let rest = longest-plain rows r (and-right (plain (row .name)) (allPlain rows) t) in
+    cond-ind P (begins (row .name) r) _ _
+    (λ b. cond-ind P (leb (longest rows r .len) (length (row .name))) _ _ (λ _. begins-plain (row .name) r (and-left (plain (row .name)) (allPlain rows) t) b) (λ _. rest))
+    (λ _. rest)
+
+operator-plain : (r : List Char) → Ascii (operatorOf r .len) r
+unfolding operators
+operator-plain r = longest-plain operators r tt
+
+module _ (s : List ℕ) (at : ℕ) (mark : Bool) (o : Operator) (is : o ≡ operatorOf (chars (drop at s))) where
+  pub no-operator : o .kind ≡ ILLEGAL → lexIllegal mark 1 (chars (drop at s)) ≡ lexOperator mark (chars (drop at s))
+  unfolding lexOperator
+  no-operator i = rw (← is, eq-eqb (o .kind) ILLEGAL i)
+
+  pub operator-said : o .kind ≢ ILLEGAL → said s at (madeAt (o .kind) at (at + o .len) (setsMark (o .kind)) Empty NoValue) ≡ placed s at (lexOperator mark (chars (drop at s)))
+  unfolding lexOperator
+  operator-said i =
+      let r = chars (drop at s) in
+      rw (← is, ne-eqb (o .kind) ILLEGAL i)
+      (bare-said s at (at + o .len) (o .len) (o .kind) (setsMark (o .kind)) (rw is (operator-plain r)) refl (rw is (operator-no-string r)))
+
+-- ---- one character that starts no token
+abbrev pub illegalAt : ℕ → ℕ → Bool → Bool → Lexed
+illegalAt at width mark stray =
+    record {
+      end = at + width;
+      chars = 1;
+      lfs = 0;
+      strays = cond stray 1 0;
+      kind = ILLEGAL;
+      inserted = false;
+      mark = mark;
+      error = 0;
+      code = 0;
+      text = AsRead;
+      value = NoValue;
+      «text_bytes» = at + width - at;
+      «value_bytes» = 0;
+      «text_differs» = stray;
+      «value_differs» = false;
+    }
+
+-- a text of another length differs
+text-other : (text bytes : List ℕ) → length text ≢ length bytes → 0 < length text → textDiffersIn text bytes ≡ true
+text-other [] bytes n h = absurd (not-suc-le-zero h)
+text-other (b ∷ text) bytes n h = rw (same-length (b ∷ text) bytes n)
+
+module _ (s : List ℕ) (at : ℕ) (h : at < length s) where
+  some : 0 < length (drop at s)
+  some = omega (arith, length-drop at s)
+
+  -- the text of one character differs from its bytes where it is a stray byte
+  differs : textDiffersIn (encode (firstChar (drop at s) .code) ++ []) (take (firstChar (drop at s) .width) (drop at s)) ≡ isStray (firstChar (drop at s))
+  differs =
+      let f = firstChar (drop at s) in
+      let text = encode (f .code) ++ [] in
+      let bytes = take (f .width) (drop at s) in
+      let size = length-take-le (f .width) (drop at s) (first-fits (drop at s) some) in
+      ⊎-elim
+      (λ (t : isStray f ≡ true).
+      let long : length text ≡ f .width + 2 = rw append-nil (stray-there s at h ∙ rw t) in
+      text-other text bytes (λ e. omega (arith, e, long, size)) (omega (arith, long)) ∙ sym t)
+      (λ (t : isStray f ≡ false). text-same text bytes (append-nil (encode (f .code)) ∙ first-coded (drop at s) some t) ∙ sym t)
+      (either (isStray f))
+
+  module _ (mark : Bool) (no-lf : eqb (getD s at 0) 10 ≡ false) where
+    first-said : said s at (illegalAt at (firstChar (drop at s) .width) mark (isStray (firstChar (drop at s)))) ≡ placed s at (lexIllegal mark 1 (chars (drop at s)))
+    unfolding same
+    first-said =
+        let f = firstChar (drop at s) in
+        let e = chars-at s at h in
+        right-said s at (illegalAt at (f .width) mark (isStray f)) (lexIllegal mark 1 (chars (drop at s)))
+        (record {
+          lexeme = refl;
+          end = rw e (omega arith);
+          lfs = rw (e, code-there s at 10 h (lit< tt), no-lf);
+          strays = rw e (sym (add-zero _));
+          textBytes = rw (e, append-nil, stray-there s at h) (omega arith);
+          valueBytes = rw e (omega arith);
+          textDiffers = rw (e, add-zero) (sym differs);
+          valueDiffers = refl;
+        })
+
+    pub illegal-said : (c : Char) (stray : Bool) → c ≡ charAt s at → isStray c ≡ stray
+        → said s at (illegalAt at (c .width) mark stray) ≡ placed s at (lexIllegal mark 1 (chars (drop at s)))
+    illegal-said c stray is t = rw (← t, is ∙ charAt-in s at h) first-said
