@@ -1,26 +1,31 @@
--- What every number reads: characters that are ASCII and no line feed, as each was tested, and those that its spelling tells of. Its kind is not EOF, and if it starts with a decimal digit or a point it reads some character.
+-- What every number reads: characters that are ASCII and no line feed, as each was tested, and those that its spelling tells of. Its kind is one of four, and if it starts with a decimal digit or a point it reads some character.
 use Prim.Native.Nat.{ℕ, zero, suc, _+_, _-_, _≤_, _<_}
-use mathlib.Core.Path.{_≡_, refl, sym, _∙_}
-use mathlib.Core.Bool.{true, false, _&&_, _||_}
+use mathlib.Core.Path.{_≡_, refl, sym, subst, _∙_}
+use mathlib.Core.Bool.{Bool, true, false, _&&_, _||_}
 use mathlib.Core.List.{List, [], _∷_}
 use mathlib.Core.Logic.{_≢_, ⊎-elim}
 use native.Mathlib.Omega.{arith}
 use native.Mathlib.Nat.{add-assoc}
 use native.Mathlib.Decide.{decLt}
-use lib.Dec.{leb, eqb, lit<, lit≤}
+use lib.Dec.{T, leb, eqb, lit<, lit≤}
 use lib.ListN.{length, getD, drop}
 use lib.Seq.{drop-drop, getD-drop}
 use borrow.Author.Tests.{eqb-true, lt-ltb}
 use Rattle.basics.proofs.Choice.{cond-ind, either, between-true, in-between}
 use Rattle.utf8.specs.declared.Char.{Char}
 use Rattle.utf8.specs.Chars.{ended, peek}
-use Rattle.token.specs.Kinds.{ILLEGAL, EOF, INT, FLOAT}
+use Rattle.token.specs.Kinds.{ILLEGAL, INT, FLOAT, IMAG}
+use Rattle.token.specs.Precedence.{among}
 use Rattle.digits.specs.Digit.{digitVal, isDecimal}
 use Rattle.numbers.specs.declared.Spelling.{Spelling}
 use Rattle.numbers.specs.declared.Spelling.the-variants.{AsRead, LowerPrefix, OctalPrefix, LowerExponent}
 use Rattle.numbers.specs.Run.{digitRun, strictRun}
 use Rattle.numbers.specs.Number.{Reading, after, exponentDigits, exponent, finish, fraction, decimalRest, decimal, prefixed, bareZero, leadingZero, withoutI, number}
 use Rattle.numbers.proofs.Runs.{Plain, plain-none, plain-more, plain-within, run-plain, strict-plain}
+
+-- the kinds that a number may have
+abbrev pub isNumeric : ℕ → Bool
+isNumeric kind = among kind (ILLEGAL ∷ INT ∷ FLOAT ∷ IMAG ∷ [])
 
 -- what a spelling tells of the first n characters: a prefix, a 0, an E
 abbrev pub Spelled : Spelling → List Char → ℕ → Type 0
@@ -74,7 +79,7 @@ module _ (r : List Char) where
     pub some : Starts r → 0 < n
 
   abbrev Read : Reading → Type 0
-  Read x = Begun (x .spelling) (x .len) × (x .kind ≢ EOF)
+  Read x = Begun (x .spelling) (x .len) × T (isNumeric (x .kind))
 
   -- m characters more
   more : (sp : Spelling) (n m : ℕ) → Begun sp n → Plain m (drop n r) → Begun sp (n + m)
@@ -91,8 +96,8 @@ module _ (r : List Char) where
     digits-read n b =
         let d = strictRun 10 (drop n r) in
         let o = more sp n (d .len) b (strict-plain 10 (lit≤ tt) (drop n r)) in
-        cond-ind (λ x. Read (after n x)) (d .misplaced) _ _ (λ _. (o, λ e. omega arith))
-        (λ _. cond-ind (λ x. Read (after n x)) (eqb (d .len) 0) _ _ (λ _. (more sp n 0 b (plain-none (drop n r)), λ e. omega arith)) (λ _. (o, λ e. omega arith)))
+        cond-ind (λ x. Read (after n x)) (d .misplaced) _ _ (λ _. (o, tt))
+        (λ _. cond-ind (λ x. Read (after n x)) (eqb (d .len) 0) _ _ (λ _. (more sp n 0 b (plain-none (drop n r)), tt)) (λ _. (o, tt)))
 
     exponent-read : (n : ℕ) → Begun sp n → Read (after n (exponent sp (drop n r)))
     unfolding exponent
@@ -106,7 +111,7 @@ module _ (r : List Char) where
             (either (eqb (peek (drop n r)) 43))
 
   -- ---- the rest of a decimal number
-  finish-read : (kind : ℕ) → kind ≢ EOF → (n : ℕ) → Begun AsRead n → Read (after n (finish kind (drop n r)))
+  finish-read : (kind : ℕ) → T (isNumeric kind) → (n : ℕ) → Begun AsRead n → Read (after n (finish kind (drop n r)))
   unfolding finish
   finish-read kind k n b =
       cond-ind (λ x. Read (after n x)) (eqb (peek (drop n r)) 101) _ _
@@ -124,8 +129,8 @@ module _ (r : List Char) where
   fraction-read n b =
       let d = strictRun 10 (drop n r) in
       let o = more AsRead n (d .len) b (strict-plain 10 (lit≤ tt) (drop n r)) in
-      cond-ind (λ x. Read (after n x)) (d .misplaced) _ _ (λ _. (o, λ e. omega arith))
-      (λ _. on n (d .len) (finish FLOAT) (finish-read FLOAT (λ e. omega arith) (n + d .len) o))
+      cond-ind (λ x. Read (after n x)) (d .misplaced) _ _ (λ _. (o, tt))
+      (λ _. on n (d .len) (finish FLOAT) (finish-read FLOAT tt (n + d .len) o))
 
   point-read : (n : ℕ) → Begun AsRead n → eqb (peek (drop n r)) 46 ≡ true → Read (after n (after 1 (fraction (drop 1 (drop n r)))))
   point-read n b e =
@@ -134,7 +139,7 @@ module _ (r : List Char) where
   rest-read : (n : ℕ) → Begun AsRead n → Read (after n (decimalRest (drop n r)))
   unfolding decimalRest
   rest-read n b =
-      cond-ind (λ x. Read (after n x)) (eqb (peek (drop n r)) 46) _ _ (point-read n b) (λ _. finish-read INT (λ e. omega arith) n b)
+      cond-ind (λ x. Read (after n x)) (eqb (peek (drop n r)) 46) _ _ (point-read n b) (λ _. finish-read INT tt n b)
 
   -- ---- a number with a prefix
   prefixed-read : (base error : ℕ) (sp : Spelling) → base ≤ 16 → (n : ℕ) → Begun sp n → Read (after n (prefixed base error sp (drop n r)))
@@ -142,9 +147,9 @@ module _ (r : List Char) where
   prefixed-read base error sp h n b =
       let d = digitRun base false (drop n r) in
       let o = more sp n (d .len) b (run-plain base h false (drop n r)) in
-      cond-ind (λ x. Read (after n x)) (d .misplaced) _ _ (λ _. (o, λ e. omega arith))
-      (λ _. cond-ind (λ x. Read (after n x)) (eqb (d .len) 0) _ _ (λ _. (more sp n 0 b (plain-none (drop n r)), λ e. omega arith))
-      (λ _. cond-ind (λ x. Read (after n x)) (leb base 8 && isDecimal (peek (drop (d .len) (drop n r)))) _ _ (λ _. (o, λ e. omega arith)) (λ _. (o, λ e. omega arith))))
+      cond-ind (λ x. Read (after n x)) (d .misplaced) _ _ (λ _. (o, tt))
+      (λ _. cond-ind (λ x. Read (after n x)) (eqb (d .len) 0) _ _ (λ _. (more sp n 0 b (plain-none (drop n r)), tt))
+      (λ _. cond-ind (λ x. Read (after n x)) (leb base 8 && isDecimal (peek (drop (d .len) (drop n r)))) _ _ (λ _. (o, tt)) (λ _. (o, tt))))
 
   -- ---- from the first character on, which is no point
   module _ (no-point : eqb (peek r) 46 ≡ false) where
@@ -153,7 +158,7 @@ module _ (r : List Char) where
     decimal-read =
         let d = digitRun 10 false r in
         let o : Begun AsRead (d .len) = record { plain = run-plain 10 (lit≤ tt) false r; spelled = tt; some = λ s. run-some r (s no-point) } in
-        cond-ind Read (d .misplaced) _ _ (λ _. (o, λ e. omega arith)) (λ _. rest-read (d .len) o)
+        cond-ind Read (d .misplaced) _ _ (λ _. (o, tt)) (λ _. rest-read (d .len) o)
 
     module _ (zero-first : eqb (peek r) 48 ≡ true) where
       first : Plain 1 r
@@ -194,7 +199,7 @@ module _ (r : List Char) where
       let o = without-read in
       cond-ind Read (eqb (x .kind) ILLEGAL) _ _ (λ _. o)
       (λ _. cond-ind Read (eqb (peek (drop (x .len) r)) 105) _ _
-      (λ e. (more (x .spelling) (x .len) 1 (o .0) (plain-one (drop (x .len) r) 105 (lit< tt) (lit< tt) (λ z. omega arith) e), λ z. omega arith)) (λ _. o))
+      (λ e. (more (x .spelling) (x .len) 1 (o .0) (plain-one (drop (x .len) r) 105 (lit< tt) (lit< tt) (λ z. omega arith) e), tt)) (λ _. o))
 
   -- ---- the laws
   pub number-ascii : (i : ℕ) → i < number r .len → (getD r i ended .code < 0x80) × (getD r i ended .code ≢ 10)
@@ -207,5 +212,8 @@ module _ (r : List Char) where
   pub number-within : number r .len ≤ length r
   number-within = plain-within (number r .len) r (number-read .0 .plain)
 
-  pub number-some : Starts r → (0 < number r .len) × (number r .kind ≢ EOF)
-  number-some s = (number-read .0 .some s, number-read .1)
+  pub number-kind : (kind : ℕ) → isNumeric kind ≡ false → number r .kind ≢ kind
+  number-kind kind f e = subst T f (subst (λ k. T (isNumeric k)) e (number-read .1))
+
+  pub number-some : Starts r → 0 < number r .len
+  number-some s = number-read .0 .some s
