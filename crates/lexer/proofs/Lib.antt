@@ -8,3 +8,4 @@ pub mod Said
 pub mod Ascii
 pub mod Tokens
 pub mod Dispatch
+pub mod Numerals

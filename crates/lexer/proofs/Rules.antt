@@ -13,15 +13,14 @@ use Rattle.basics.proofs.Choice.{cond-ind, and-split}
 use Rattle.utf8.specs.declared.Char.{Char}
 use Rattle.utf8.specs.Chars.{peek, encoded}
 use Rattle.utf8.proofs.Ends.{Ends, ends-tail, ends-some, peek-append}
-use Rattle.token.specs.Kinds.{ILLEGAL, IDENT, COMMENT}
+use Rattle.token.specs.Kinds.{ILLEGAL, EOF, IDENT, COMMENT}
 use Rattle.token.specs.Table.{identToken}
 use Rattle.digits.specs.Digit.{isDecimal}
 use Rattle.words.specs.Word.{isLetter, isWord, wordLen}
 use Rattle.words.proofs.Words.{word-bound, word-local}
 use Rattle.numbers.specs.Number.{number}
-use Rattle.numbers.proofs.Bound.{number-within}
 use Rattle.numbers.proofs.Local.{number-local}
-use Rattle.numbers.proofs.Progress.{number-some}
+use Rattle.numbers.proofs.Tested.{number-within, number-kind, number-some}
 use Rattle.quotes.specs.Body.{Body, body}
 use Rattle.quotes.proofs.Local.{body-bound, body-local}
 use Rattle.bodies.specs.Span.{toStop, toStarSlash}
@@ -63,8 +62,7 @@ unfolding lexNumber
 fine-number m c r t f =
     let q : List Char = c ∷ r in
     let x = number q in
-    let i = number-some q f in
-    fine-reads m q (x .len) _ _ (reads-shown (x .kind) (x .len) _ (x .error) true (i .1)) (i .0) (number-within q)
+    fine-reads m q (x .len) _ _ (reads-shown (x .kind) (x .len) _ (x .error) true (number-kind q EOF refl)) (number-some q f) (number-within q)
     (λ h s. let k = number-local q t h in (rw (k .0, take-append-le (x .len) q t (number-within q)), λ _. k .1))
 
 -- ---- quoted literals: f makes the token of the characters read

@@ -1,15 +1,15 @@
 -- A number in a text that ends in a line feed does not read that line feed, and is the same with more text behind.
 use Prim.Native.Nat.{ℕ, suc, _+_, _≤_, _<_}
-use mathlib.Core.Path.{_≡_, refl, sym, ap, _∙_}
+use mathlib.Core.Path.{_≡_, refl, ap}
 use mathlib.Core.Bool.{Bool, true, false, cond, _&&_, _||_}
 use mathlib.Core.List.{List, [], _∷_, _++_}
 use mathlib.Core.Logic.{⊎-elim}
 use native.Mathlib.Omega.{arith}
-use lib.Dec.{ltb, leb, eqb, lit<, lit≤}
+use lib.Dec.{ltb, leb, eqb, lit≤}
 use lib.ListN.{length, drop, length-drop}
 use lib.Seq.{drop-append-le}
 use borrow.Author.Tests.{ltb-true, eqb-true}
-use Rattle.basics.proofs.Choice.{either, between-true}
+use Rattle.basics.proofs.Choice.{either}
 use Rattle.utf8.specs.declared.Char.{Char}
 use Rattle.utf8.specs.Chars.{peek}
 use Rattle.utf8.proofs.Ends.{Ends, ends-tail, ends-some, ends-drop, peek-append, more-behind}
@@ -18,7 +18,8 @@ use Rattle.digits.specs.Digit.{digitVal, isDecimal}
 use Rattle.numbers.specs.declared.Spelling.{Spelling}
 use Rattle.numbers.specs.declared.Spelling.the-variants.{AsRead, LowerPrefix, OctalPrefix, LowerExponent}
 use Rattle.numbers.specs.Run.{Run, stop, more, digitRun, strictRun}
-use Rattle.numbers.specs.Number.{Reading, after, illegal, good, exponentDigits, exponent, finish, fraction, decimalRest, decimal, prefixedDigits, prefixed, bareZero, zeroBy, leadingZero, withoutI, number, imaginary}
+use Rattle.numbers.proofs.Runs.{digit-from}
+use Rattle.numbers.specs.Number.{Reading, after, illegal, good, exponentDigits, exponent, finish, fraction, decimalRest, decimal, prefixed, bareZero, leadingZero, withoutI, number}
 
 -- ---- runs of digits
 RunLocal : (List Char → Run) → List Char → List Char → Type 0
@@ -26,8 +27,7 @@ RunLocal f r t = (f (r ++ t) ≡ f r) × (f r .len < length r)
 
 -- a line feed is no digit
 no-feed : (c : Char) (base : ℕ) → base ≤ 16 → ltb (digitVal (c .code)) base ≡ true → c .code ≡ 10 → ⊥
-unfolding digitVal
-no-feed c base b e z = let l : 16 < base = ltb-true 16 base (rw z at e) in omega arith
+no-feed c base b e z = let l = ltb-true (digitVal (c .code)) base e in omega (arith, digit-from (c .code) (omega arith))
 
 run-local : (base : ℕ) → base ≤ 16 → (u : Bool) (r t : List Char) → Ends r → RunLocal (digitRun base u) r t
 unfolding RunLocal digitRun

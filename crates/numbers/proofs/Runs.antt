@@ -1,15 +1,17 @@
 -- Laws of runs of digits: one step at a place of a text, by the byte there.
-use Prim.Native.Nat.{ℕ, zero, suc, _+_, _-_, _≤_, _<_}
-use mathlib.Core.Path.{_≡_, refl, sym, ap, _∙_}
+use Prim.Native.Nat.{ℕ, zero, suc, _+_, _≤_, _<_}
+use mathlib.Core.Path.{_≡_, sym}
 use mathlib.Core.Bool.{Bool, true, false}
 use mathlib.Core.List.{List, [], _∷_}
+use mathlib.Core.Logic.{_≢_}
 use native.Mathlib.Omega.{arith}
 use native.Mathlib.Nat.{add-zero}
 use native.Mathlib.Decide.{decLt}
-use lib.Dec.{ltb, eqb, lit<}
-use lib.ListN.{length, getD, take, drop}
+use lib.Dec.{ltb, eqb, eqb→eq, lit<}
+use lib.ListN.{length, getD, drop}
 use borrow.Author.Tests.{ltb-true, lt-ltb, le-ltb, eqb-true, eq-eqb, ne-eqb}
 use Rattle.basics.proofs.Choice.{cond-ind}
+use Rattle.basics.proofs.Every.{every-below}
 use Rattle.basics.proofs.Lists.{reach}
 use Rattle.utf8.specs.declared.Char.{Char}
 use Rattle.utf8.specs.Chars.{ended, chars}
@@ -26,19 +28,19 @@ digits-more p d = let e : p + suc (d .len) ≡ p + 1 + d .len = omega arith in r
 pub digits-stop : (p : ℕ) (u : Bool) → digitsAt p (stop u) ≡ record { end = p; misplaced = u }
 digits-stop p u = rw (add-zero p)
 
+-- a digit is an ASCII character
+digit-low : (c : ℕ) → digitVal c < 16 → c < 0x80
+digit-low c l = elim (decLt c 0x80) [ yes k ↦ k | no k ↦ absurd (omega (arith, digit-high c (omega arith))) ]
+
 module _ (base : ℕ) (s : List ℕ) (p : ℕ) where
   pub run-end : (u : Bool) → length s ≤ p → digitRun base u (chars (drop p s)) ≡ stop u
   unfolding digitRun
   run-end u h = rw (chars-end s p h)
 
   module _ (h : p < length s) where
-    -- a digit is an ASCII byte
-    digit-low : digitVal (getD s p 0) < base → base ≤ 16 → getD s p 0 < 0x80
-    digit-low d l = elim (decLt (getD s p 0) 0x80) [ yes k ↦ k | no k ↦ absurd (omega (arith, digit-high (getD s p 0) (omega arith))) ]
-
     pub run-digit : (u : Bool) → digitVal (getD s p 0) < base → base ≤ 16 → digitRun base u (chars (drop p s)) ≡ more (digitRun base false (chars (drop (p + 1) s)))
     unfolding digitRun
-    run-digit u d l = rw (chars-ascii s p h (digit-low d l), lt-ltb _ _ d)
+    run-digit u d l = rw (chars-ascii s p h (digit-low (getD s p 0) (omega arith)), lt-ltb _ _ d)
 
     module _ (d : base ≤ digitVal (getD s p 0)) where
       pub run-other : (u : Bool) → (getD s p 0 ≡ 95 → ⊥) → digitRun base u (chars (drop p s)) ≡ stop u
@@ -71,55 +73,75 @@ module _ (base : ℕ) (s : List ℕ) (p : ℕ) where
         | no h ↦ rw (chars-end s p (omega arith))
       ]
 
--- ---- the characters of a run are ASCII
-pub run-bound : (base : ℕ) (u : Bool) (r : List Char) → digitRun base u r .len ≤ length r
+-- ---- the characters of a run are ASCII and no line feed
+-- the first n characters are; a code above 0 is there, as 0 stands past the end
+unfoldable pub Plain : ℕ → List Char → Type 0
+Plain n r = (i : ℕ) → i < n → (0 < getD r i ended .code) × (getD r i ended .code < 0x80) × (getD r i ended .code ≢ 10)
+
+pub plain-none : (r : List Char) → Plain 0 r
+unfolding Plain
+plain-none r i h = absurd (omega arith)
+
+pub plain-more : (n : ℕ) (c : Char) (r : List Char) → 0 < c .code → c .code < 0x80 → c .code ≢ 10 → Plain n r → Plain (suc n) (c ∷ r)
+unfolding Plain
+plain-more n c r l h e f zero k = (l, h, e)
+plain-more n c r l h e f (suc i) k = f i (omega arith)
+
+pub plain-within : (n : ℕ) (r : List Char) → Plain n r → n ≤ length r
+unfolding Plain
+plain-within zero r f = omega arith
+plain-within (suc n) [] f = absurd (omega (arith, f 0 (omega arith) .0))
+plain-within (suc n) (c ∷ r) f = omega (arith, plain-within n r (λ i h. f (suc i) (omega arith)))
+
+no-digit : ℕ → Bool
+no-digit c = eqb (digitVal c) 16
+
+-- a digit is none of the first characters
+pub digit-from : (c : ℕ) → digitVal c < 16 → 48 ≤ c
+unfolding no-digit digitVal
+digit-from c l =
+    elim (decLt c 48) [
+      | yes h ↦ absurd (omega (arith, eqb→eq (digitVal c) 16 (every-below no-digit 48 tt c h)))
+      | no h ↦ omega arith
+    ]
+
+pub run-plain : (base : ℕ) → base ≤ 16 → (u : Bool) (r : List Char) → Plain (digitRun base u r .len) r
 unfolding digitRun
-run-bound base u [] = omega arith
-run-bound base u (c ∷ r) =
-    cond-ind (λ (d : Run). d .len ≤ suc (length r)) (ltb (digitVal (c .code)) base) _ _ (λ _. omega (arith, run-bound base false r))
-    (λ _. cond-ind (λ (d : Run). d .len ≤ suc (length r)) (eqb (c .code) 95) _ _
-    (λ _. cond-ind (λ (d : Run). d .len ≤ suc (length r)) u _ _ (λ _. omega arith) (λ _. omega (arith, run-bound base true r))) (λ _. omega arith))
-
-Low : ℕ → List Char → Type 0
-Low n r = (i : ℕ) → i < n → getD r i ended .code < 0x80
-
-low-none : (r : List Char) → Low 0 r
-unfolding Low
-low-none r i h = absurd (omega arith)
-
-low-more : (n : ℕ) (c : Char) (r : List Char) → c .code < 0x80 → Low n r → Low (suc n) (c ∷ r)
-unfolding Low
-low-more n c r l f zero h = l
-low-more n c r l f (suc i) h = f i (omega arith)
-
-run-low : (base : ℕ) → base ≤ 16 → (u : Bool) (r : List Char) → Low (digitRun base u r .len) r
-unfolding digitRun
-run-low base b u [] = low-none []
-run-low base b u (c ∷ r) =
-    cond-ind (λ (d : Run). Low (d .len) (c ∷ r)) (ltb (digitVal (c .code)) base) _ _
-    (λ e. low-more _ c r (digit-ascii (ltb-true _ _ e)) (run-low base b false r))
-    (λ _. cond-ind (λ (d : Run). Low (d .len) (c ∷ r)) (eqb (c .code) 95) _ _
-    (λ e. cond-ind (λ (d : Run). Low (d .len) (c ∷ r)) u _ _ (λ _. low-none (c ∷ r)) (λ _. low-more _ c r (omega (arith, eqb-true (c .code) 95 e)) (run-low base b true r)))
-    (λ _. low-none (c ∷ r)))
+run-plain base b u [] = plain-none []
+run-plain base b u (c ∷ r) =
+    cond-ind (λ (d : Run). Plain (d .len) (c ∷ r)) (ltb (digitVal (c .code)) base) _ _
+    (λ e. digit _ (ltb-true _ _ e) (run-plain base b false r))
+    (λ _. cond-ind (λ (d : Run). Plain (d .len) (c ∷ r)) (eqb (c .code) 95) _ _
+    (λ e. cond-ind (λ (d : Run). Plain (d .len) (c ∷ r)) u _ _ (λ _. plain-none (c ∷ r)) (λ _. under _ (eqb-true (c .code) 95 e) (run-plain base b true r)))
+    (λ _. plain-none (c ∷ r)))
   where
-    digit-ascii : digitVal (c .code) < base → c .code < 0x80
-    digit-ascii l = elim (decLt (c .code) 0x80) [ yes k ↦ k | no k ↦ absurd (omega (arith, digit-high (c .code) (omega arith))) ]
+    digit : (n : ℕ) → digitVal (c .code) < base → Plain n r → Plain (suc n) (c ∷ r)
+    digit n l f =
+        let h = digit-from (c .code) (omega arith) in plain-more n c r (omega arith) (digit-low (c .code) (omega arith)) (λ e. omega arith) f
 
-pub strict-is : (P : Run → Type 0) (base : ℕ) (r : List Char) → P (stop true) → P (digitRun base false r) → P (strictRun base r)
+    under : (n : ℕ) → c .code ≡ 95 → Plain n r → Plain (suc n) (c ∷ r)
+    under n e f = plain-more n c r (omega arith) (omega arith) (λ z. omega arith) f
+
+strict-is : (P : Run → Type 0) (base : ℕ) (r : List Char) → P (stop true) → P (digitRun base false r) → P (strictRun base r)
 unfolding strictRun digitRun
 strict-is P base [] f g = g
 strict-is P base (c ∷ r) f g = cond-ind P (eqb (c .code) 95) _ _ (λ _. f) (λ _. g)
 
--- ---- so the place after a run is that many bytes on
+pub strict-plain : (base : ℕ) → base ≤ 16 → (r : List Char) → Plain (strictRun base r .len) r
+strict-plain base b r = strict-is (λ (d : Run). Plain (d .len) r) base r (plain-none r) (run-plain base b false r)
+
+-- ---- so the place after them is that many bytes on
+pub plain-place : (n : ℕ) (s : List ℕ) (p : ℕ) → Plain n (chars (drop p s)) → drop n (chars (drop p s)) ≡ chars (drop (p + n) s)
+unfolding Plain
+plain-place n s p f =
+    sym (rw (ascii-widths n s p (plain-within n (chars (drop p s)) f) (λ i h. f i h .1)) at (place-chars n s p))
+
 module _ (base : ℕ) (b : base ≤ 16) (s : List ℕ) (p : ℕ) where
   pub run-place : drop (digitRun base false (chars (drop p s)) .len) (chars (drop p s)) ≡ chars (drop (p + digitRun base false (chars (drop p s)) .len) s)
-  unfolding Low
-  run-place =
-      let n = digitRun base false (chars (drop p s)) .len in
-      sym (rw (ascii-widths n s p (run-bound base false (chars (drop p s))) (run-low base b false (chars (drop p s)))) at (place-chars n s p))
+  run-place = plain-place _ s p (run-plain base b false (chars (drop p s)))
 
   pub strict-place : drop (strictRun base (chars (drop p s)) .len) (chars (drop p s)) ≡ chars (drop (p + strictRun base (chars (drop p s)) .len) s)
-  strict-place = strict-is (λ d. drop (d .len) (chars (drop p s)) ≡ chars (drop (p + d .len) s)) base (chars (drop p s)) (rw add-zero) run-place
+  strict-place = plain-place _ s p (strict-plain base b (chars (drop p s)))
 
 -- one ASCII character on from a place
 pub next-place : (s : List ℕ) (p x : ℕ) → getD s p 0 ≡ x → 0 < x → x < 0x80 → drop 1 (chars (drop p s)) ≡ chars (drop (p + 1) s)
