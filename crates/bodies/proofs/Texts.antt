@@ -164,6 +164,22 @@ clean-only s k p h e =
     let size = ap length e ∙ length-take-le (widths cs) (drop p s) (omega (arith, place-fits k s p h, length-drop p s)) in
     (none, omega (arith, clean-length s k p))
 
+-- the text and a line feed are never what was read
+pub clean-fed : (s : List ℕ) (k p : ℕ) → p ≤ length s → same (clean (take k (chars (drop p s))) ++ (10 ∷ [])) (take (widths (take k (chars (drop p s)))) (drop p s)) ≡ false
+unfolding crsOf
+clean-fed s k p h =
+    let cs = take k (chars (drop p s)) in
+    let bytes = take (widths cs) (drop p s) in
+    let fed : List ℕ = clean cs ++ (10 ∷ []) in
+    ⊎-elim
+    (λ (t : same fed bytes ≡ true).
+    let e = same-true fed bytes t in
+    let none : count isCr cs ≡ 0 = omega (arith, crs-read s k p, sym (ap crsOf e) ∙ crs-append (clean cs) (10 ∷ []), clean-no-cr cs) in
+    let size = ap length e ∙ length-take-le (widths cs) (drop p s) (omega (arith, place-fits k s p h, length-drop p s)) in
+    absurd (omega (arith, clean-length s k p, length-append (clean cs) (10 ∷ []))))
+    (λ (t : same fed bytes ≡ false). t)
+    (either (same fed bytes))
+
 -- so the counts tell whether they differ
 differs-by : (s : List ℕ) (k p : ℕ) → p ≤ length s → (t c u : Bool)
     → same (clean (take k (chars (drop p s)))) (take (widths (take k (chars (drop p s)))) (drop p s)) ≡ t

@@ -5,3 +5,6 @@ pub mod Fine
 pub mod Rules
 pub mod Laws
 pub mod Said
+pub mod Opened
+pub mod QuotedTokens
+pub mod SpannedTokens
