@@ -26,7 +26,7 @@ use Rattle.lexer.specs.declared.lexed.Text.the-variants.{WithoutCr, With
 use Rattle.lexer.specs.declared.lexed.Value.{Value}
 use Rattle.lexer.specs.declared.lexed.Value.the-variants.{Empty as NoValue, Raw}
 use Rattle.lexer.specs.declared.lexed.Lexed.{Lexed}
-use Rattle.lexer.specs.Lexeme.{Lexeme, bare, insertedSemicolon}
+use Rattle.lexer.specs.Lexeme.{Lexeme, insertedSemicolon}
 use Rattle.lexer.specs.Quotes.{rawInside, rawOf, lexRaw}
 use Rattle.lexer.specs.Comments.{lineComment, generalComment, comment, lexComment}
 use Rattle.lexer.specs.Made.{insertedAt}
@@ -326,7 +326,8 @@ semicolon-said s at =
     let n : at - at ≡ 0 = omega arith in
     right-said s at (insertedAt at) insertedSemicolon
     (record {
-      lexeme = ap (λ k. bare SEMICOLON k false) n;
+      lexeme =
+          λ i. record { skipped = 0; len = n i; kind = SEMICOLON; inserted = true; text = []; value = []; code = 0; error = 0; mark = false };
       end = omega arith;
       lfs = refl;
       strays = refl;
@@ -336,9 +337,17 @@ semicolon-said s at =
       valueDiffers = refl;
     })
 
-pub comment-ends : (s : List ℕ) (at x : ℕ) → 0 < x → x < 0x80 → getD s at 0 ≡ 47 → getD s (at + 1) 0 ≡ x → (mark : Bool)
-    → lexComment mark (chars (drop at s))
-    ≡ cond (mark && (eqb x 47 || endsLine false (chars (drop (at + 2) s)))) insertedSemicolon (comment mark (chars (drop at s)))
-unfolding lexComment
-comment-ends s at x z l e g mark =
-    ap (λ r. cond (mark && (eqb (peek (drop 1 r)) 47 || endsLine false (drop 2 r))) insertedSemicolon (comment mark (chars (drop at s)))) (comment-chars s at x z l e g)
+module _ (s : List ℕ) (at x : ℕ) (some : 0 < x) (low : x < 0x80) (first : getD s at 0 ≡ 47) (second : getD s (at + 1) 0 ≡ x) (mark : Bool) where
+  comment-ends : lexComment mark (chars (drop at s))
+      ≡ cond (mark && (eqb x 47 || endsLine false (chars (drop (at + 2) s)))) insertedSemicolon (comment mark (chars (drop at s)))
+  unfolding lexComment
+  comment-ends =
+      ap (λ r. cond (mark && (eqb (peek (drop 1 r)) 47 || endsLine false (drop 2 r))) insertedSemicolon (comment mark (chars (drop at s))))
+      (comment-chars s at x some low first second)
+
+  pub comment-inserted : mark && (eqb x 47 || endsLine false (chars (drop (at + 2) s))) ≡ true → said s at (insertedAt at) ≡ placed s at (lexComment mark (chars (drop at s)))
+  comment-inserted e = semicolon-said s at ∙ ap (placed s at) (sym (comment-ends ∙ rw e))
+
+  pub comment-kept : mark && (eqb x 47 || endsLine false (chars (drop (at + 2) s))) ≡ false
+      → placed s at (comment mark (chars (drop at s))) ≡ placed s at (lexComment mark (chars (drop at s)))
+  comment-kept e = ap (placed s at) (sym (comment-ends ∙ rw e))
