@@ -1,6 +1,6 @@
 -- A token that opens with ASCII characters: its characters, its bytes, and those inside it.
 use Prim.Native.Nat.{ℕ, suc, _+_, _-_, _≤_, _<_}
-use mathlib.Core.Path.{_≡_, refl, sym, ap, _∙_}
+use mathlib.Core.Path.{_≡_, refl, ap, _∙_}
 use mathlib.Core.Bool.{Bool, true, false, cond, not}
 use mathlib.Core.List.{List, [], _∷_}
 use native.Mathlib.Omega.{arith}
@@ -10,7 +10,6 @@ use lib.Seq.{length-take-le, take-take}
 use borrow.Author.Tests.{ne-eqb}
 use Rattle.basics.specs.Same.{same}
 use Rattle.basics.proofs.Lists.{drop-next, reach}
-use Rattle.utf8.specs.declared.Char.{Char}
 use Rattle.utf8.specs.Chars.{chars, widths, isStray}
 use Rattle.utf8.proofs.First.{ascii, chars-ascii}
 use Rattle.bodies.specs.Body.{isLf, isCr, count}

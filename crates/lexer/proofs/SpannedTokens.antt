@@ -6,9 +6,7 @@ use mathlib.Core.List.{List, [], _∷_, _++_, append-nil}
 use native.Mathlib.Omega.{arith}
 use lib.Dec.{eqb}
 use lib.ListN.{length, getD, take, drop, length-append, length-drop}
-use lib.Seq.{length-take-le}
 use Rattle.basics.specs.Same.{same}
-use Rattle.basics.proofs.Lists.{same-length}
 use Rattle.utf8.specs.declared.Char.{Char}
 use Rattle.utf8.specs.Chars.{chars, peek, widths, isStray}
 use Rattle.utf8.proofs.First.{chars-le}
@@ -16,7 +14,7 @@ use Rattle.utf8.proofs.Places.{place-fits}
 use Rattle.token.specs.Kinds.{SEMICOLON, STRING, COMMENT}
 use Rattle.bodies.specs.declared.body.Body.{Body}
 use Rattle.bodies.specs.Span.{Span, toStop, toStarSlash}
-use Rattle.bodies.specs.Body.{isLf, isCr, count, bodyOf, clean}
+use Rattle.bodies.specs.Body.{isCr, count, bodyOf, clean}
 use Rattle.bodies.proofs.Spans.{stop-spanned, slash-spanned}
 use Rattle.bodies.proofs.Counts.{count-fits, stop-inside}
 use Rattle.bodies.specs.Line.{endsLine}

@@ -24,7 +24,7 @@ sub-x c =
     let x = c .before .before in
     let a = x .before .before .before in
     let b = x .before .raw-body in
-    rw (x .spanned .ensures) (raw-two (a .args .src .now) (a .args .at) (a .pre) (b .result) (b .ensures) (c .before .if1 .taken))
+    rw (x .spanned .ensures) (omega (arith, raw-two (a .args .src .now) (a .args .at) (a .pre) (b .result) (b .ensures) (c .before .if1 .taken)))
 
 returns : tie.Need-returns
 returns c =
@@ -38,7 +38,7 @@ sub-x-2 c =
     let x = c .before .before in
     let a = x .before .before .before in
     let b = x .before .raw-body in
-    rw (x .spanned .ensures) (raw-one (a .args .src .now) (a .args .at) (a .pre) (b .result) (b .ensures))
+    rw (x .spanned .ensures) (omega (arith, raw-one (a .args .src .now) (a .args .at) (a .pre) (b .result) (b .ensures)))
 
 returns-2 : tie.Need-returns-2
 returns-2 c =
