@@ -1,7 +1,7 @@
 -- Laws of a body's text: its length, and that it is the bytes read just where there is no CR and no stray byte among them.
 use Prim.Native.Nat.{ℕ, zero, suc, _+_, _-_, _*_, _/_, _%_, _≤_, _<_}
 use mathlib.Core.Path.{_≡_, refl, sym, ap, ap₂, _∙_}
-use mathlib.Core.Bool.{Bool, true, false}
+use mathlib.Core.Bool.{Bool, true, false, not, _||_, false≢true}
 use mathlib.Core.List.{List, [], _∷_, _++_, append-assoc}
 use mathlib.Core.Logic.{⊎-elim}
 use native.Mathlib.Omega.{arith}
@@ -11,7 +11,9 @@ use lib.Dec.{eqb, lit≤, lit<}
 use lib.ListN.{length, getD, take, drop, length-append, length-drop}
 use lib.Seq.{length-take-le, take-add, drop-drop}
 use borrow.Author.Tests.{eq-eqb, ne-eqb, eqb-true, lt-ltb}
+use Rattle.basics.specs.Same.{same}
 use Rattle.basics.proofs.Choice.{cond-ind, either}
+use Rattle.basics.proofs.Lists.{same-refl, same-true}
 use Rattle.utf8.specs.declared.Char.{Char}
 use Rattle.utf8.specs.Chars.{firstChar, chars, widths, isStray, isScalar, octets, encode}
 use Rattle.utf8.proofs.First.{ascii, ascii-there, chars-at, chars-end, first-fits}
@@ -161,6 +163,44 @@ clean-only s k p h e =
     let none : count isCr cs ≡ 0 = omega (arith, crs-read s k p, sym (ap crsOf e) ∙ clean-no-cr cs) in
     let size = ap length e ∙ length-take-le (widths cs) (drop p s) (omega (arith, place-fits k s p h, length-drop p s)) in
     (none, omega (arith, clean-length s k p))
+
+-- the text and a line feed are never what was read
+pub clean-fed : (s : List ℕ) (k p : ℕ) → p ≤ length s → same (clean (take k (chars (drop p s))) ++ (10 ∷ [])) (take (widths (take k (chars (drop p s)))) (drop p s)) ≡ false
+unfolding crsOf
+clean-fed s k p h =
+    let cs = take k (chars (drop p s)) in
+    let bytes = take (widths cs) (drop p s) in
+    let fed : List ℕ = clean cs ++ (10 ∷ []) in
+    ⊎-elim
+    (λ (t : same fed bytes ≡ true).
+    let e = same-true fed bytes t in
+    let none : count isCr cs ≡ 0 = omega (arith, crs-read s k p, sym (ap crsOf e) ∙ crs-append (clean cs) (10 ∷ []), clean-no-cr cs) in
+    let size = ap length e ∙ length-take-le (widths cs) (drop p s) (omega (arith, place-fits k s p h, length-drop p s)) in
+    absurd (omega (arith, clean-length s k p, length-append (clean cs) (10 ∷ []))))
+    (λ (t : same fed bytes ≡ false). t)
+    (either (same fed bytes))
+
+-- so the counts tell whether they differ
+differs-by : (s : List ℕ) (k p : ℕ) → p ≤ length s → (t c u : Bool)
+    → same (clean (take k (chars (drop p s)))) (take (widths (take k (chars (drop p s)))) (drop p s)) ≡ t
+    → eqb (count isCr (take k (chars (drop p s)))) 0 ≡ c → eqb (count isStray (take k (chars (drop p s)))) 0 ≡ u → not t ≡ not c || not u
+differs-by s k p h true c u e f g =
+    let cs = take k (chars (drop p s)) in
+    let z = clean-only s k p h (same-true (clean cs) (take (widths cs) (drop p s)) e) in
+    rw (sym f ∙ eq-eqb (count isCr cs) 0 (z .0), sym g ∙ eq-eqb (count isStray cs) 0 (z .1))
+differs-by s k p h false true true e f g =
+    let cs = take k (chars (drop p s)) in
+    let z = clean-same s k p (eqb-true (count isCr cs) 0 f) (eqb-true (count isStray cs) 0 g) in
+    absurd (false≢true (sym e ∙ ap (same (clean cs)) (sym z) ∙ same-refl (clean cs)))
+differs-by s k p h false true false e f g = refl
+differs-by s k p h false false u e f g = refl
+
+pub clean-differs : (s : List ℕ) (k p : ℕ) → p ≤ length s
+    → not (same (clean (take k (chars (drop p s)))) (take (widths (take k (chars (drop p s)))) (drop p s)))
+    ≡ not (eqb (count isCr (take k (chars (drop p s)))) 0) || not (eqb (count isStray (take k (chars (drop p s)))) 0)
+clean-differs s k p h =
+    let cs = take k (chars (drop p s)) in
+    differs-by s k p h (same (clean cs) (take (widths cs) (drop p s))) (eqb (count isCr cs) 0) (eqb (count isStray cs) 0) refl refl refl
 
 -- ---- the same of a body: what it was read to hold
 module _ (s : List ℕ) (at : ℕ) (sp : Span) where

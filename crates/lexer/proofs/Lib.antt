@@ -9,3 +9,6 @@ pub mod Ascii
 pub mod Tokens
 pub mod Dispatch
 pub mod Numerals
+pub mod Opened
+pub mod QuotedTokens
+pub mod SpannedTokens

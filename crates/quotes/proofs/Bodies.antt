@@ -1,7 +1,7 @@
 -- Laws of a body over its characters: what is skipped, and the size of its value.
 use Prim.Native.Nat.{ℕ, zero, suc, _+_, _*_, _≤_}
 use mathlib.Core.Path.{_≡_, refl, sym, subst}
-use mathlib.Core.Bool.{true, false, cond}
+use mathlib.Core.Bool.{true, false, cond, false≢true}
 use mathlib.Core.List.{List, [], _∷_}
 use mathlib.Core.Logic.{⊎-elim}
 use native.Mathlib.Omega.{arith}
@@ -61,6 +61,28 @@ strays-fit quote (c ∷ r) zero =
     (λ _. cond-ind Roomy (eqb (c .code) 10) _ _ (λ _. lit≤ tt)
     (λ _. cond-ind Roomy (eqb (c .code) 92) _ _
     (λ _. escape-size _ (escapeOf quote r .given) (bodyFrom quote (escapeOf quote r .len) r) (strays-fit quote r (escapeOf quote r .len))) (λ _. plain-size c (bodyFrom quote 0 r) (strays-fit quote r 0))))
+
+-- ---- a closed body has no error
+abbrev Sound : Body → Type 0
+Sound b = b .closed ≡ true → b .error ≡ 0
+
+escape-sound : (n : ℕ) (g : Given) (b : Body) → Sound b → Sound (escape n g b)
+escape-sound n (Bad error) b f e = absurd (false≢true e)
+escape-sound n (Value code byte) b f e = f e
+
+from-sound : (quote : ℕ) (r : List Char) (k : ℕ) → Sound (bodyFrom quote k r)
+unfolding bodyFrom
+from-sound quote [] k = λ e. absurd (false≢true e)
+from-sound quote (c ∷ r) (suc k) = from-sound quote r k
+from-sound quote (c ∷ r) zero =
+    let n = escapeOf quote r .len in
+    cond-ind Sound (eqb (c .code) quote) _ _ (λ _ e. refl)
+    (λ _. cond-ind Sound (eqb (c .code) 10) _ _ (λ _ e. absurd (false≢true e))
+    (λ _. cond-ind Sound (eqb (c .code) 92) _ _
+    (λ _. escape-sound (suc n) (escapeOf quote r .given) (bodyFrom quote n r) (from-sound quote r n)) (λ _. from-sound quote r 0)))
+
+pub closed-sound : (quote : ℕ) (r : List Char) → body quote r .closed ≡ true → body quote r .error ≡ 0
+closed-sound quote r = from-sound quote r 0
 
 -- ---- what an escape gives is at most twice as long as the escape with its backslash
 abbrev Short : List ℕ → Type 0

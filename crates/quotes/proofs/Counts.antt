@@ -1,7 +1,7 @@
 -- The value of a closed body is the text's own bytes only where there is no escape and no stray byte: by counting the bytes above 127, and all bytes.
 use Prim.Native.Nat.{ℕ, zero, suc, _+_, _*_, _-_, _≤_, _<_, min}
 use mathlib.Core.Path.{_≡_, refl, sym, ap, _∙_, subst}
-use mathlib.Core.Bool.{Bool, true, false, cond, false≢true}
+use mathlib.Core.Bool.{Bool, true, false, cond, not, _||_, false≢true}
 use mathlib.Core.List.{List, [], _∷_, _++_}
 use mathlib.Core.Logic.{⊎-elim}
 use native.Mathlib.Omega.{arith}
@@ -11,9 +11,10 @@ use native.Mathlib.Nat.{suc-add}
 use lib.Dec.{eqb, ltb, lit≤}
 use lib.ListN.{length, getD, take, drop, length-append, length-drop, length-take}
 use lib.Seq.{take-add, drop-drop}
-use borrow.Author.Tests.{lt-ltb, eqb-true}
+use borrow.Author.Tests.{lt-ltb, eq-eqb, eqb-true}
+use Rattle.basics.specs.Same.{same}
 use Rattle.basics.proofs.Choice.{cond-ind, either}
-use Rattle.basics.proofs.Lists.{drop-next}
+use Rattle.basics.proofs.Lists.{drop-next, same-refl, same-true}
 use Rattle.utf8.specs.declared.Char.{Char}
 use Rattle.utf8.specs.Chars.{octets, encode, firstChar, chars, isStray, widths}
 use Rattle.utf8.proofs.First.{ascii-there, chars-at, chars-end, chars-ascii, first-least, there-high}
@@ -226,3 +227,23 @@ module _ (quote : ℕ) (low : quote < 0x80) (s : List ℕ) (p : ℕ) (closed : b
       let r = chars (drop p s) in
       let e : widths (take (body quote r .len) r) - 1 ≡ widths (take (body quote r .count) r) = omega (arith, closing h) in
       value-shown quote s p h z ∙ ap (λ n. take n (drop p s)) (sym e)
+
+  -- so the flag and the count tell whether they differ
+  differs-by : (t x z : Bool)
+      → same (body quote (chars (drop p s)) .value) (take (widths (take (body quote (chars (drop p s)) .len) (chars (drop p s))) - 1) (drop p s)) ≡ t
+      → body quote (chars (drop p s)) .escaped ≡ x → eqb (body quote (chars (drop p s)) .strays) 0 ≡ z → not t ≡ x || not z
+  differs-by true x z e f g =
+      let b = body quote (chars (drop p s)) in
+      let k = shown-only (same-true (b .value) (take (widths (take (b .len) (chars (drop p s))) - 1) (drop p s)) e) in
+      rw (sym f ∙ k .0, sym g ∙ eq-eqb (b .strays) 0 (k .1))
+  differs-by false true z e f g = refl
+  differs-by false false true e f g =
+      let b = body quote (chars (drop p s)) in
+      absurd (false≢true (sym e ∙ ap (same (b .value)) (sym (shown-so f (eqb-true (b .strays) 0 g))) ∙ same-refl (b .value)))
+  differs-by false false false e f g = refl
+
+  pub value-differs : not (same (body quote (chars (drop p s)) .value) (take (widths (take (body quote (chars (drop p s)) .len) (chars (drop p s))) - 1) (drop p s)))
+      ≡ body quote (chars (drop p s)) .escaped || not (eqb (body quote (chars (drop p s)) .strays) 0)
+  value-differs =
+      let b = body quote (chars (drop p s)) in
+      differs-by (same (b .value) (take (widths (take (b .len) (chars (drop p s))) - 1) (drop p s))) (b .escaped) (eqb (b .strays) 0) refl refl refl
