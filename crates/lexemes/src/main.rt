@@ -37,19 +37,24 @@ fn bit(t: bool) -> usize {
     if t { 1 } else { 0 }
 }
 
-// Writes a number at the place of the i-th.
-fn put(record: &mut [u8], i: usize, n: usize) {
-    if 16 <= i {
-        return;
+// Writes the last eight bits of a number at a place.
+fn put_byte(record: &mut [u8], at: usize, n: usize) {
+    if at < record.len() {
+        record[at] = (n % 256) as u8;
     }
-    let mut rest = n;
-    for k in 0..8usize {
-        let at = 8 * i + k;
-        if at < record.len() {
-            record[at] = (rest % 256) as u8;
-        }
-        rest = rest / 256;
-    }
+}
+
+// Writes a number at a place, its last eight bits first.
+fn put(record: &mut [u8], place: u8, n: usize) {
+    let at = place as usize;
+    put_byte(record, at, n);
+    put_byte(record, at + 1, n / 256);
+    put_byte(record, at + 2, n / 65536);
+    put_byte(record, at + 3, n / 16777216);
+    put_byte(record, at + 4, n / 4294967296);
+    put_byte(record, at + 5, n / 1099511627776);
+    put_byte(record, at + 6, n / 281474976710656);
+    put_byte(record, at + 7, n / 72057594037927936);
 }
 
 fn tell(start: usize, x: Lexed) {
@@ -58,21 +63,21 @@ fn tell(start: usize, x: Lexed) {
     let text = x.text;
     let value = x.value;
     put(record, 0, start);
-    put(record, 1, x.end);
-    put(record, 2, x.chars);
-    put(record, 3, x.lfs);
-    put(record, 4, x.strays);
-    put(record, 5, x.kind as usize);
-    put(record, 6, bit(x.inserted));
-    put(record, 7, bit(x.mark));
-    put(record, 8, x.error as usize);
-    put(record, 9, x.code as usize);
-    put(record, 10, text_number(text));
-    put(record, 11, value_number(value));
-    put(record, 12, x.text_bytes);
-    put(record, 13, x.value_bytes);
-    put(record, 14, bit(x.text_differs));
-    put(record, 15, bit(x.value_differs));
+    put(record, 8, x.end);
+    put(record, 16, x.chars);
+    put(record, 24, x.lfs);
+    put(record, 32, x.strays);
+    put(record, 40, x.kind as usize);
+    put(record, 48, bit(x.inserted));
+    put(record, 56, bit(x.mark));
+    put(record, 64, x.error as usize);
+    put(record, 72, x.code as usize);
+    put(record, 80, text_number(text));
+    put(record, 88, value_number(value));
+    put(record, 96, x.text_bytes);
+    put(record, 104, x.value_bytes);
+    put(record, 112, bit(x.text_differs));
+    put(record, 120, bit(x.value_differs));
     io::write_all(STDOUT_FILENO, record);
 }
 
@@ -92,10 +97,11 @@ fn tell_all(src: &[u8]) {
     }
 }
 
-fn number_at(bytes: &[u8], at: usize) -> usize {
-    utf8::byte(bytes, at) as usize + utf8::byte(bytes, at + 1) as usize * 256
-        + utf8::byte(bytes, at + 2) as usize * 65536
-        + utf8::byte(bytes, at + 3) as usize * 16777216
+// The length that stands at the head of a text.
+fn length_in(head: &[u8]) -> usize {
+    let low = utf8::byte(head, 0) as usize + utf8::byte(head, 1) as usize * 256;
+    let high = utf8::byte(head, 2) as usize + utf8::byte(head, 3) as usize * 256;
+    low + high * 65536
 }
 
 fn main() {
@@ -105,7 +111,7 @@ fn main() {
         if io::read_full(STDIN_FILENO, &mut head) != 8 {
             return;
         }
-        let n = number_at(&head, 0);
+        let n = length_in(&head);
         if text.len() < n {
             return;
         }
