@@ -13,7 +13,23 @@ use Rattle.basics.proofs.Lists.{drop-next, reach}
 use Rattle.utf8.specs.Chars.{chars, widths, isStray}
 use Rattle.utf8.proofs.First.{ascii, chars-ascii}
 use Rattle.bodies.specs.Body.{isLf, isCr, count}
+use Rattle.lexer.specs.Lexeme.{Lexeme}
 use Rattle.lexer.specs.Placed.{textDiffersIn}
+
+-- a lexeme that stands in the text, after its blanks
+abbrev pub lexemeAs : ℕ → ℕ → ℕ → ℕ → Bool → List ℕ → List ℕ → Lexeme
+lexemeAs n kind error code mark text value =
+    record {
+      skipped = 0;
+      len = n;
+      kind = kind;
+      inserted = false;
+      text = text;
+      value = value;
+      code = code;
+      error = error;
+      mark = mark;
+    }
 
 -- the character at a place that holds an ASCII byte
 pub open-chars : (s : List ℕ) (at x : ℕ) → 0 < x → x < 0x80 → getD s at 0 ≡ x → chars (drop at s) ≡ ascii x ∷ chars (drop (at + 1) s)

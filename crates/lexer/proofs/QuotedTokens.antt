@@ -27,11 +27,10 @@ use Rattle.lexer.specs.declared.lexed.Text.the-variants.{AsRead}
 use Rattle.lexer.specs.declared.lexed.Value.{Value}
 use Rattle.lexer.specs.declared.lexed.Value.the-variants.{Empty as NoValue, Interpreted}
 use Rattle.lexer.specs.declared.lexed.Lexed.{Lexed}
-use Rattle.lexer.specs.Lexeme.{Lexeme}
 use Rattle.lexer.specs.Quotes.{stringOf, lexString, charOf, lexChar}
 use Rattle.lexer.specs.Placed.{valueOf, said, placed}
 use Rattle.lexer.proofs.Said.{right-said}
-use Rattle.lexer.proofs.Opened.{open-chars, text-some, inside-token}
+use Rattle.lexer.proofs.Opened.{lexemeAs, open-chars, text-some, inside-token}
 
 -- ---- counts of characters
 strays-count : (cs : List Char) → straysIn cs ≡ count isStray cs
@@ -62,21 +61,6 @@ literalAs q at kind error code value bytes differs =
       «value_bytes» = bytes;
       «text_differs» = not (eqb (q .strays) 0);
       «value_differs» = differs;
-    }
-
--- the lexeme of n characters of r
-abbrev lexemeAs : List Char → ℕ → ℕ → ℕ → ℕ → List ℕ → Lexeme
-lexemeAs r n kind error code value =
-    record {
-      skipped = 0;
-      len = n;
-      kind = kind;
-      inserted = false;
-      text = encoded (take n r);
-      value = value;
-      code = code;
-      error = error;
-      mark = true;
     }
 
 module _ (quote : ℕ) (some : 0 < quote) (low : quote < 0x80) (no-lf : quote ≡ 10 → ⊥) (s : List ℕ) (at : ℕ) (there : getD s at 0 ≡ quote) where
@@ -124,11 +108,11 @@ module _ (quote : ℕ) (some : 0 < quote) (low : quote < 0x80) (no-lf : quote �
   literal-said : (q : Quoted) → q ≡ quotedAt quote s (at + 1) → (kind error code : ℕ) (how : Value) (value : List ℕ) (bytes : ℕ) (differs : Bool)
       → valueOf how rest ≡ value → bytes ≡ length value - 2 * inner .strays
       → differs ≡ not (same value (cond (eqb kind STRING) (take (size - cond (eqb error 6) 0 1) (drop (at + 1) s)) []))
-      → said s at (literalAs q at kind error code how bytes differs) ≡ placed s at (lexemeAs (chars (drop at s)) (suc (inner .len)) kind error code value)
+      → said s at (literalAs q at kind error code how bytes differs) ≡ placed s at (lexemeAs (suc (inner .len)) kind error code true (encoded read) value)
   unfolding bodyPlaced
   literal-said q e kind error code how value bytes differs v n d =
       let r = chars (drop at s) in
-      let y = lexemeAs r (suc (inner .len)) kind error code value in
+      let y = lexemeAs (suc (inner .len)) kind error code true (encoded read) value in
       let one = add-one (inner .len) in
       let w = ap (λ l. valueOf how (drop 1 l)) first ∙ v in
       rw e
@@ -158,6 +142,12 @@ module _ (quote : ℕ) (some : 0 < quote) (low : quote < 0x80) (no-lf : quote �
             d ∙ ap (λ l. not (same value (cond (eqb kind STRING) l []))) (sym (inside-token (eqb error 6) s at (widths read) size read-bytes read-fits));
       }))
 
+  -- one that has no value
+  literal-bare : (q : Quoted) → q ≡ quotedAt quote s (at + 1) → (kind error code : ℕ) → eqb kind STRING ≡ false
+      → said s at (literalAs q at kind error code NoValue 0 false) ≡ placed s at (lexemeAs (suc (inner .len)) kind error code true (encoded read) [])
+  unfolding same
+  literal-bare q e kind error code k = literal-said q e kind error code NoValue [] 0 false refl (omega arith) (rw k)
+
 -- ---- strings
 module _ (s : List ℕ) (at : ℕ) (there : getD s at 0 ≡ 34) (q : Quoted) (is : q ≡ quotedAt 34 s (at + 1)) where
   string-body : lexString (chars (drop at s)) ≡ stringOf (chars (drop at s)) (body 34 (chars (drop (at + 1) s)))
@@ -165,10 +155,10 @@ module _ (s : List ℕ) (at : ℕ) (there : getD s at 0 ≡ 34) (q : Quoted) (is
   string-body = ap (λ r. stringOf (chars (drop at s)) (body 34 (drop 1 r))) (open-chars s at 34 (omega arith) (omega arith) there)
 
   pub string-open : q .closed ≡ false → said s at (literalAs q at ILLEGAL (q .error) 0 NoValue 0 false) ≡ placed s at (lexString (chars (drop at s)))
-  unfolding bodyPlaced same
+  unfolding bodyPlaced
   string-open h =
       let k : body 34 (chars (drop (at + 1) s)) .closed ≡ false = sym (ap (λ (x : Quoted). x .closed) is) ∙ h in
-      literal-said 34 (omega arith) (omega arith) (λ z. omega arith) s at there q is ILLEGAL (q .error) 0 NoValue [] 0 false refl (omega arith) refl
+      literal-bare 34 (omega arith) (omega arith) (λ z. omega arith) s at there q is ILLEGAL (q .error) 0 refl
       ∙ ap (placed s at) (sym (string-body ∙ rw (k, is)))
 
   pub string-closed : q .closed ≡ true
@@ -190,10 +180,10 @@ module _ (s : List ℕ) (at : ℕ) (there : getD s at 0 ≡ 39) (q : Quoted) (is
   char-body = ap (λ r. charOf (chars (drop at s)) (body 39 (drop 1 r))) (open-chars s at 39 (omega arith) (omega arith) there)
 
   pub char-open : q .closed ≡ false → said s at (literalAs q at ILLEGAL (q .error) 0 NoValue 0 false) ≡ placed s at (lexChar (chars (drop at s)))
-  unfolding bodyPlaced same
+  unfolding bodyPlaced
   char-open h =
       let k : body 39 (chars (drop (at + 1) s)) .closed ≡ false = sym (ap (λ (x : Quoted). x .closed) is) ∙ h in
-      literal-said 39 (omega arith) (omega arith) (λ z. omega arith) s at there q is ILLEGAL (q .error) 0 NoValue [] 0 false refl (omega arith) refl
+      literal-bare 39 (omega arith) (omega arith) (λ z. omega arith) s at there q is ILLEGAL (q .error) 0 refl
       ∙ ap (placed s at) (sym (char-body ∙ rw (k, is)))
 
   module _ (h : q .closed ≡ true) where
@@ -202,17 +192,17 @@ module _ (s : List ℕ) (at : ℕ) (there : getD s at 0 ≡ 39) (q : Quoted) (is
     closed = sym (ap (λ (x : Quoted). x .closed) is) ∙ h
 
     pub char-none : (q .count ≡ 1 → ⊥) → said s at (literalAs q at ILLEGAL 13 0 NoValue 0 false) ≡ placed s at (lexChar (chars (drop at s)))
-    unfolding bodyPlaced same
+    unfolding bodyPlaced
     char-none n =
         let m : eqb (body 39 (chars (drop (at + 1) s)) .count) 1 ≡ false = ne-eqb _ 1 (λ z. n (ap (λ (x : Quoted). x .count) is ∙ z)) in
-        literal-said 39 (omega arith) (omega arith) (λ z. omega arith) s at there q is ILLEGAL 13 0 NoValue [] 0 false refl (omega arith) refl
+        literal-bare 39 (omega arith) (omega arith) (λ z. omega arith) s at there q is ILLEGAL 13 0 refl
         ∙ ap (placed s at) (sym (char-body ∙ rw (closed, m)))
 
     pub char-one : q .count ≡ 1 → said s at (literalAs q at CHAR (q .error) (q .code) NoValue 0 false) ≡ placed s at (lexChar (chars (drop at s)))
-    unfolding bodyPlaced same
+    unfolding bodyPlaced
     char-one n =
         let b = body 39 (chars (drop (at + 1) s)) in
         let m : b .count ≡ 1 = sym (ap (λ (x : Quoted). x .count) is) ∙ n in
         let z : q .error ≡ 0 = ap (λ (x : Quoted). x .error) is ∙ closed-sound 39 (chars (drop (at + 1) s)) closed in
-        literal-said 39 (omega arith) (omega arith) (λ z. omega arith) s at there q is CHAR (q .error) (q .code) NoValue [] 0 false refl (omega arith) refl
+        literal-bare 39 (omega arith) (omega arith) (λ z. omega arith) s at there q is CHAR (q .error) (q .code) refl
         ∙ ap (placed s at) (sym (char-body ∙ rw (closed, m, z, is)))

@@ -24,13 +24,13 @@ use Rattle.lexer.specs.declared.lexed.Text.the-variants.{WithoutCr, With
 use Rattle.lexer.specs.declared.lexed.Value.{Value}
 use Rattle.lexer.specs.declared.lexed.Value.the-variants.{Empty as NoValue, Raw}
 use Rattle.lexer.specs.declared.lexed.Lexed.{Lexed}
-use Rattle.lexer.specs.Lexeme.{Lexeme, insertedSemicolon}
+use Rattle.lexer.specs.Lexeme.{insertedSemicolon}
 use Rattle.lexer.specs.Quotes.{rawInside, rawOf, lexRaw}
 use Rattle.lexer.specs.Comments.{lineComment, generalComment, comment, lexComment}
 use Rattle.lexer.specs.Made.{insertedAt}
 use Rattle.lexer.specs.Placed.{textOf, valueOf, textDiffersIn, said, placed}
 use Rattle.lexer.proofs.Said.{right-said}
-use Rattle.lexer.proofs.Opened.{Opened, opened-raw, opened-comment, open-chars, comment-chars, text-some, inside-token}
+use Rattle.lexer.proofs.Opened.{lexemeAs, Opened, opened-raw, opened-comment, open-chars, comment-chars, text-some, inside-token}
 
 -- a token by its body, with what the code sets itself
 abbrev pub bodyAs : Body → ℕ → ℕ → ℕ → Bool → Text → Value → ℕ → ℕ → Bool → Bool → Lexed
@@ -59,20 +59,6 @@ bytesOf b at = b .end - at - b .crs
 
 abbrev pub differsOf : Body → Bool
 differsOf b = not (eqb (b .crs) 0) || not (eqb (b .strays) 0)
-
-abbrev lexemeAs : ℕ → ℕ → ℕ → Bool → List ℕ → List ℕ → Lexeme
-lexemeAs n kind error mark text value =
-    record {
-      skipped = 0;
-      len = n;
-      kind = kind;
-      inserted = false;
-      text = text;
-      value = value;
-      code = 0;
-      error = error;
-      mark = mark;
-    }
 
 module _ (s : List ℕ) (at n : ℕ) (o : Opened s at n) (sp : Span) where
   abbrev rest : List Char
@@ -120,14 +106,14 @@ module _ (s : List ℕ) (at n : ℕ) (o : Opened s at n) (sp : Span) where
       → bytes ≡ length text - 2 * count isStray read → inside ≡ length value - 2 * count isStray read
       → differs ≡ textDiffersIn text (take (widths read) (drop at s))
       → other ≡ not (same value (cond (eqb kind STRING) (take (length (take (widths read) (drop at s)) - cond (eqb error 6) 1 2) (drop 1 (take (widths read) (drop at s)))) []))
-      → said s at (bodyAs b n kind error mark how way bytes inside differs other) ≡ placed s at (lexemeAs (n + sp .len) kind error mark text value)
+      → said s at (bodyAs b n kind error mark how way bytes inside differs other) ≡ placed s at (lexemeAs (n + sp .len) kind error 0 mark text value)
   unfolding bodyOf
   span-said b e kind error mark how way text value bytes inside differs other t v f g h k =
       let r = chars (drop at s) in
       let m : sp .len + n ≡ n + sp .len = omega arith in
       let u = ap (λ l. textOf how (take l r)) m ∙ t in
       rw e
-      (right-said s at _ (lexemeAs (n + sp .len) kind error mark text value)
+      (right-said s at _ (lexemeAs (n + sp .len) kind error 0 mark text value)
       (record {
         lexeme =
             λ i. record {
@@ -170,14 +156,14 @@ module _ (s : List ℕ) (at : ℕ) (there : getD s at 0 ≡ 96) (b : Body) (is :
   pub raw-room : length s < 2 ^ 63 → (at + b .crs ≤ b .end) × (b .chars + 1 < 2 ^ 64)
   raw-room h = span-room s at 1 raw-opened rawSpan (stop-spanned 96 (chars (drop (at + 1) s)) .bound) b is h
 
-  raw-lexeme : lexRaw (chars (drop at s)) ≡ lexemeAs (1 + rawSpan .len) STRING (cond (rawSpan .closed) 0 6) true (clean rawRead) rawValue
+  raw-lexeme : lexRaw (chars (drop at s)) ≡ lexemeAs (1 + rawSpan .len) STRING (cond (rawSpan .closed) 0 6) 0 true (clean rawRead) rawValue
   unfolding lexRaw
   raw-lexeme =
       let r = chars (drop at s) in
       let n : suc (rawSpan .len) ≡ 1 + rawSpan .len = omega arith in
       ap (λ l. rawOf r (toStop 96 l)) raw-rest
-      ∙ ap (λ l. lexemeAs (suc (rawSpan .len)) STRING (cond (rawSpan .closed) 0 6) true (clean (take (suc (rawSpan .len)) r)) (clean (take (rawInside rawSpan) l))) raw-rest
-      ∙ ap (λ k. lexemeAs k STRING (cond (rawSpan .closed) 0 6) true (clean (take k r)) rawValue) n
+      ∙ ap (λ l. lexemeAs (suc (rawSpan .len)) STRING (cond (rawSpan .closed) 0 6) 0 true (clean (take (suc (rawSpan .len)) r)) (clean (take (rawInside rawSpan) l))) raw-rest
+      ∙ ap (λ k. lexemeAs k STRING (cond (rawSpan .closed) 0 6) 0 true (clean (take k r)) rawValue) n
 
   -- the bytes of the value are the first k characters behind the backquote, of w bytes, with the CRs and stray bytes of the whole
   raw-value : (k : ℕ) → rawInside rawSpan ≡ k → count isCr (take (rawSpan .len) (chars (drop (at + 1) s))) ≡ count isCr (take k (chars (drop (at + 1) s)))
@@ -201,7 +187,7 @@ module _ (s : List ℕ) (at : ℕ) (there : getD s at 0 ≡ 96) (b : Body) (is :
       span-said s at 1 raw-opened rawSpan b is STRING error true WithoutCr Raw (clean rawRead) rawValue (bytesOf b at) inside (differsOf b) (differsOf b) refl
       (ap (valueOf Raw) raw-rest) (text-bytes s at 1 raw-opened rawSpan b is) n (text-differs s at 1 raw-opened rawSpan (omega arith) b is)
       (d ∙ ap (λ l. not (same rawValue l)) (sym (inside-token (eqb error 6) s at (widths rawRead) _ w (read-fits s at 1 raw-opened rawSpan))))
-      ∙ ap (placed s at) (sym (raw-lexeme ∙ ap (λ k. lexemeAs (1 + rawSpan .len) STRING k true (clean rawRead) rawValue) e))
+      ∙ ap (placed s at) (sym (raw-lexeme ∙ ap (λ k. lexemeAs (1 + rawSpan .len) STRING k 0 true (clean rawRead) rawValue) e))
 
   module _ (h : b .closed ≡ true) where
     closed : rawSpan .closed ≡ true
@@ -244,7 +230,7 @@ module _ (s : List ℕ) (at : ℕ) (first : getD s at 0 ≡ 47) (mark : Bool) (b
   -- closed or not, where only the text may differ
   comment-said : (x : ℕ) → 13 < x → x < 0x80 → getD s (at + 1) 0 ≡ x → (sp : Span) → b ≡ bodyOf (at + 2) sp (chars (drop (at + 2) s)) → (error : ℕ)
       → said s at (bodyAs b 2 COMMENT error mark WithoutCr NoValue (bytesOf b at) 0 (differsOf b) false)
-      ≡ placed s at (lexemeAs (2 + sp .len) COMMENT error mark (clean (take (2 + sp .len) (chars (drop at s)))) [])
+      ≡ placed s at (lexemeAs (2 + sp .len) COMMENT error 0 mark (clean (take (2 + sp .len) (chars (drop at s)))) [])
   unfolding same
   comment-said x l h second sp is error =
       let o = opened-comment s at x l h first second in

@@ -1,4 +1,5 @@
 -- `lexer::comments::line_comment` meets its contract: by whether the line feed is read.
+use Prim.Native.Nat.{_+_, _^_, _≤_, _<_}
 use native.Mathlib.Omega.{arith}
 use borrow.Author.Needs.{needs}
 use Rattle.basics.proofs.Lists.{reach}
@@ -14,11 +15,14 @@ add-line-body c =
 line-body-requires : tie.Need-line-body-requires
 line-body-requires c κs = search needs
 
-spanned-requires : tie.Need-spanned-requires
-spanned-requires c κs =
-    let a = c .before .before .before in
-    let b = c .before .line-body in
+room : (c : tie.After-line-body) → (c .before .before .args .at + c .line-body .result .crs ≤ c .line-body .result .end) × (c .line-body .result .chars + 2 < 2 ^ 64)
+room c =
+    let a = c .before .before in
+    let b = c .line-body in
     line-room (a .args .src .now) (a .args .at) (a .pre .0) (a .args .mark) (b .result) (a .pre .1) (b .ensures) (omega (arith, a .good .0 .1))
+
+spanned-requires : tie.Need-spanned-requires
+spanned-requires c κs = room (c .before)
 
 returns : tie.Need-returns
 returns c =
@@ -28,10 +32,7 @@ returns c =
     (line-closed (a .args .src .now) (a .args .at) (a .pre .0) (a .args .mark) (b .result) (a .pre .1) (b .ensures) (c .before .if1 .taken))
 
 spanned-requires-2 : tie.Need-spanned-requires-2
-spanned-requires-2 c κs =
-    let a = c .before .before .before in
-    let b = c .before .line-body in
-    line-room (a .args .src .now) (a .args .at) (a .pre .0) (a .args .mark) (b .result) (a .pre .1) (b .ensures) (omega (arith, a .good .0 .1))
+spanned-requires-2 c κs = room (c .before)
 
 add-x : tie.Need-add-x
 add-x c =
