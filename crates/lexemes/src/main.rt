@@ -85,7 +85,7 @@ fn tell(start: usize, x: Lexed) {
 fn tell_all(src: &[u8]) {
     let mut at = 0;
     let mut mark = false;
-    for k in 0..2097155usize {
+    for k in 0..131075usize {
         let start = blanks::skip_blanks(src, at, mark).end;
         let x = lexer::lex_token(src, start, mark);
         tell(start, x);
@@ -104,14 +104,13 @@ fn length_in(head: &[u8]) -> usize {
     low + high * 65536
 }
 
-fn main() {
-    let mut text = [0u8; 1048577];
-    let mut head = [0u8; 8];
+// Tells of one text after the other, until the input ends or a text is too long.
+fn tell_texts(text: &mut [u8], head: &mut [u8]) {
     for k in 0..1000000000usize {
-        if io::read_full(STDIN_FILENO, &mut head) != 8 {
+        if io::read_full(STDIN_FILENO, head) != 8 {
             return;
         }
-        let n = length_in(&head);
+        let n = length_in(head);
         if text.len() < n {
             return;
         }
@@ -120,4 +119,10 @@ fn main() {
         }
         tell_all(&text[..n]);
     }
+}
+
+fn main() {
+    let mut text = [0u8; 65536];
+    let mut head = [0u8; 8];
+    tell_texts(&mut text, &mut head);
 }
