@@ -2,6 +2,7 @@
 use Prim.Native.Nat.{_+_}
 use mathlib.Core.Path.{refl, sym, ap, _∙_}
 use native.Mathlib.Omega.{arith}
+use lib.ListN.{getD}
 use borrow.Author.Needs.{needs}
 use Rattle.token.specs.Kinds.{ILLEGAL}
 use Rattle.lexer.specs.Placed.{said, placed}
@@ -18,7 +19,8 @@ starts-comment-requires c κs = search needs
 
 lex-comment-requires : tie.Need-lex-comment-requires
 lex-comment-requires c κs =
-    let t = slashes _ _ (sym (c .before .starts-comment .ensures) ∙ c .if1 .taken) in
+    let a = c .before .before .before .before .args in
+    let t = slashes (getD (a .src .now) (a .at) 0) (a .second) (sym (c .before .starts-comment .ensures) ∙ c .if1 .taken) in
     (t .0, search needs, t .1)
 
 returns : tie.Need-returns

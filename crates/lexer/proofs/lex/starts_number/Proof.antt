@@ -15,10 +15,10 @@ is-decimal-requires-2 : tie.Need-is-decimal-requires-2
 is-decimal-requires-2 c κs = search needs
 
 returns-2 : tie.Need-returns-2
-returns-2 c = rw (sym (c .before .before .before .is-decimal .ensures) ∙ c .before .before .if1 .left, eq-eqb _ _ (c .before .if2 .taken)) (c .is-decimal2 .ensures)
+returns-2 c = rw (sym (c .before .before .before .is-decimal .ensures) ∙ c .before .before .if1 .left, eq-eqb _ 46 (c .before .if2 .taken)) (c .is-decimal2 .ensures)
 
 returns-3 : tie.Need-returns-3
-returns-3 c = rw (sym (c .before .before .is-decimal .ensures) ∙ c .before .if1 .left, ne-eqb _ _ (c .if2 .left))
+returns-3 c = rw (sym (c .before .before .is-decimal .ensures) ∙ c .before .if1 .left, ne-eqb _ 46 (c .if2 .left))
 
 pub starts-number-spec : {M : Type 1} → statement M
 starts-number-spec =
