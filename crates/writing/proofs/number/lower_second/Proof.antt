@@ -1,5 +1,4 @@
 -- `writing::number::lower_second` meets its contract.
-use native.Mathlib.Omega.{arith}
 use borrow.Author.Needs.{needs}
 use borrow.Author.Tests.{eq-eqb, ne-eqb}
 use Rattle.basics.proofs.Choice.{below-it, in-between, above-it}

@@ -8,10 +8,10 @@ cast-put : tie.Need-cast-put
 cast-put c = omega (arith, c .before .before .before .pre (c .before .if1 .taken))
 
 put-requires : tie.Need-put-requires
-put-requires c κs = search needs
+put-requires c κs = tt
 
 put-code-requires : tie.Need-put-code-requires
-put-code-requires c κs = search needs
+put-code-requires c κs = tt
 
 same-length : tie.Need-same-length
 same-length c = search needs
