@@ -3,14 +3,19 @@ use Prim.Native.Nat.{ℕ, _+_}
 use mathlib.Core.Bool.{cond}
 use mathlib.Core.List.{List, [], _∷_, map}
 use lib.Dec.{eqb}
+use Rattle.basics.specs.Between.{between}
 use Rattle.numbers.specs.declared.Spelling.{Spelling}
 use Rattle.numbers.specs.declared.Spelling.the-variants.{AsRead, LowerPrefix, OctalPrefix, LowerExponent}
+
+-- a letter in lower case
+abbrev pub lower : ℕ → ℕ
+lower b = cond (between 65 b 90) (b + 32) b
 
 -- the second byte in lower case
 abbrev pub lowerSecond : List ℕ → List ℕ
 lowerSecond [] = []
 lowerSecond (a ∷ []) = a ∷ []
-lowerSecond (a ∷ b ∷ bs) = a ∷ (b + 32) ∷ bs
+lowerSecond (a ∷ b ∷ bs) = a ∷ lower b ∷ bs
 
 -- an o after the first byte
 abbrev pub gainO : List ℕ → List ℕ

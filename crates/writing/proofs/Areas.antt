@@ -1,0 +1,46 @@
+-- Laws of writing to an area.
+use Prim.Native.Nat.{ℕ, suc, _+_, _≤_, _<_}
+use mathlib.Core.Path.{_≡_, refl, sym, ap, _∙_}
+use mathlib.Core.List.{List, [], _∷_, _++_}
+use native.Mathlib.Omega.{arith}
+use native.Mathlib.Numerals.{add-one}
+use lib.ListN.{length, getD, drop, set, drop-of-length-le}
+use lib.Seq.{sets, set-out}
+use Rattle.basics.proofs.Lists.{drop-next}
+use Rattle.writing.specs.Writes.{Writes}
+
+-- past the end nothing is written
+sets-out : (area : List ℕ) (to : ℕ) (bytes : List ℕ) → length area ≤ to → sets area to bytes ≡ area
+sets-out area to [] h = refl
+sets-out area to (b ∷ bytes) h = rw (set-out area to b h) (sets-out area (suc to) bytes (omega arith))
+
+pub no-byte : (area : List ℕ) (to b : ℕ) → length area ≤ to → Writes area to (b ∷ []) area to
+no-byte area to b h rest = sets-out area to (b ∷ rest) h ∙ sym (sets-out area to rest h)
+
+pub one-byte : (area : List ℕ) (to b : ℕ) → Writes area to (b ∷ []) (set area to b) (to + 1)
+one-byte area to b rest = rw add-one
+
+-- the same bytes in other words
+pub writes-as : (area : List ℕ) (to : ℕ) {x y : List ℕ} (after : List ℕ) (next : ℕ) → x ≡ y → Writes area to y after next → Writes area to x after next
+writes-as area to after next e w rest = ap (λ z. sets area to (z ++ rest)) e ∙ w rest
+
+pub sets-as : (area : List ℕ) (to : ℕ) {x y after : List ℕ} → x ≡ y → after ≡ sets area to x → after ≡ sets area to y
+sets-as area to e w = w ∙ ap (sets area to) e
+
+-- ---- a loop that has `left` to write from the present place on, which makes the area `whole`
+module _ (area : List ℕ) (n : ℕ) {whole left : List ℕ} (to-do : whole ≡ sets area n left) where
+  -- what is left in other words
+  pub left-as : {rest : List ℕ} → left ≡ rest → whole ≡ sets area n rest
+  left-as e = to-do ∙ ap (sets area n) e
+
+  -- at the end nothing is left
+  pub finished : left ≡ [] → area ≡ whole
+  finished e = sym (left-as e)
+
+-- of a list, what is left from a place on: its next byte, or nothing
+pub next-byte : (area : List ℕ) (to : ℕ) (bytes : List ℕ) (k : ℕ) (after : List ℕ) (next : ℕ) → k < length bytes → Writes area to (getD bytes k 0 ∷ []) after next
+    → (rest : List ℕ) → sets area to (drop k bytes ++ rest) ≡ sets after next (drop (k + 1) bytes ++ rest)
+next-byte area to bytes k after next h w rest = rw (drop-next bytes k 0 h) (w (drop (k + 1) bytes ++ rest))
+
+pub no-more : (area : List ℕ) (to : ℕ) (bytes : List ℕ) (k : ℕ) → length bytes ≤ k → Writes area to (drop k bytes) area to
+no-more area to bytes k h rest = rw (drop-of-length-le bytes h)

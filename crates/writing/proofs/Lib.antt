@@ -1,0 +1,4 @@
+pub mod Areas
+pub mod Texts
+pub mod Spellings
+pub mod Values

@@ -1,0 +1,89 @@
+-- `writing::chars::write_chars` meets its contract. The loop's invariant: the text of what is left is to be written from the present place on.
+use mathlib.Core.Path.{_≡_, refl, _∙_}
+use native.Mathlib.Omega.{arith}
+use borrow.Author.Needs.{needs}
+use lib.ListN.{length}
+use lib.Seq.{sets}
+use Rattle.utf8.proofs.First.{there-fits}
+use Rattle.writing.proofs.Areas.{left-as, finished}
+use Rattle.writing.proofs.Texts.{textAt, text-none, text-end, text-kept, text-dropped}
+use Rattle.writing.proofs.chars.write_chars.Statement.{statement}
+use Rattle.writing.proofs.chars.write_chars.Tie as tie
+
+abbrev Inv-loop : tie.InvT-loop
+Inv-loop src at count crs area₀ to p₀ left₀ n₀ area p left n =
+    (length area ≡ length area₀) × (sets area₀ to (textAt crs count src at) ≡ sets area n (textAt crs left src p))
+
+abbrev μ-loop : tie.MeasureT-loop
+μ-loop src at count crs area₀ to p₀ left₀ n₀ area p left n = left
+
+loop-holds : tie.Need-loop-holds Inv-loop μ-loop
+loop-holds c = (refl, refl)
+
+same-length : tie.Need-same-length Inv-loop μ-loop
+same-length c = c .before .before .loop .inv .0
+
+returns : tie.Need-returns Inv-loop μ-loop
+returns c =
+    let l = c .before .before in
+    finished (l .loop .area) (l .loop .n) (l .loop .inv .1) (text-end _ (l .loop .left) _ (l .loop .p) (c .if1 .taken))
+
+char-at-requires : tie.Need-char-at-requires Inv-loop μ-loop
+char-at-requires c κs = tt
+
+add-p : tie.Need-add-p Inv-loop μ-loop
+add-p c =
+    let x = c .before .char-at in
+    omega (arith, there-fits _ _ (x .result) (c .before .before .if1 .left) (x .ensures), c .before .before .before .before .before .before .before .good .0 .1)
+
+sub-left : tie.Need-sub-left Inv-loop μ-loop
+sub-left c = c .before .before .before .loop-test .taken
+
+put-code-requires : tie.Need-put-code-requires Inv-loop μ-loop
+put-code-requires c κs = tt
+
+loop-less : tie.Need-loop-less Inv-loop μ-loop
+loop-less c = search needs
+
+loop-again : tie.Need-loop-again Inv-loop μ-loop
+loop-again c =
+    let l = c .before .before .before .before .before .before .before .before .before .before in
+    let x = c .before .before .before .before .before .before .before .char-at in
+    (search needs, left-as (l .loop .area) (l .loop .n) (l .loop .inv .1) (text-kept _ (l .loop .left) _ (l .loop .p) (x .result) (c .before .before .before .before .before .before .before .before .before .loop-test .taken) (c .before .before .before .before .before .before .before .before .if1 .left) (x .ensures) (c .before .before .before .before .if2 .taken)) ∙ c .before .before .put-code .ensures _)
+
+loop-less-2 : tie.Need-loop-less-2 Inv-loop μ-loop
+loop-less-2 c = search needs
+
+loop-again-2 : tie.Need-loop-again-2 Inv-loop μ-loop
+loop-again-2 c =
+    let l = c .before .before .before .before .before .before in
+    let x = c .before .before .before .char-at in
+    (l .loop .inv .0, left-as (l .loop .area) (l .loop .n) (l .loop .inv .1) (text-dropped _ (l .loop .left) _ (l .loop .p) (x .result) (c .before .before .before .before .before .loop-test .taken) (c .before .before .before .before .if1 .left) (x .ensures) (c .if2 .left)))
+
+same-length-2 : tie.Need-same-length-2 Inv-loop μ-loop
+same-length-2 c = c .before .loop .inv .0
+
+returns-2 : tie.Need-returns-2 Inv-loop μ-loop
+returns-2 c =
+    let l = c .before in
+    finished (l .loop .area) (l .loop .n) (l .loop .inv .1) (text-none _ (l .loop .left) _ (l .loop .p) (c .loop-test .left))
+
+pub write-chars-spec : {M : Type 1} → statement M
+write-chars-spec =
+    tie.close
+    (tie.spec
+    Inv-loop
+    μ-loop
+    loop-holds
+    same-length
+    returns
+    char-at-requires
+    add-p
+    sub-left
+    put-code-requires
+    loop-less
+    loop-again
+    loop-less-2
+    loop-again-2
+    same-length-2
+    returns-2)

@@ -1,0 +1,20 @@
+-- The text of a number byte by byte.
+use Prim.Native.Nat.{ℕ, _+_}
+use mathlib.Core.Bool.{cond}
+use mathlib.Core.List.{List, [], _∷_, _++_}
+use lib.Dec.{eqb}
+use Rattle.numbers.specs.declared.Spelling.{Spelling}
+use Rattle.numbers.specs.declared.Spelling.the-variants.{AsRead, LowerPrefix, OctalPrefix, LowerExponent}
+use Rattle.numbers.specs.Spelling.{lower}
+
+-- what the text has of a byte that was read after k others
+unfoldable pub spelled : Spelling → ℕ → ℕ → List ℕ
+spelled AsRead k b = b ∷ []
+spelled LowerPrefix k b = cond (eqb k 1) (lower b) b ∷ []
+spelled OctalPrefix k b = cond (eqb k 0) (b ∷ 111 ∷ []) (b ∷ [])
+spelled LowerExponent k b = cond (eqb b 69) 101 b ∷ []
+
+-- the text of bytes that were read after k others
+unfoldable pub spelledFrom : Spelling → ℕ → List ℕ → List ℕ
+spelledFrom spelling k [] = []
+spelledFrom spelling k (b ∷ bs) = spelled spelling k b ++ spelledFrom spelling (k + 1) bs

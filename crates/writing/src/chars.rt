@@ -1,0 +1,42 @@
+// Characters of the source.
+use crate::put::put_code;
+ghost use mathlib.Core.Path.{_≡_};
+ghost use lib.ListN.{take, drop};
+ghost use lib.Seq.{sets};
+ghost use Rattle.utf8.specs.Chars.{chars, encoded};
+ghost use Rattle.bodies.specs.Body.{clean};
+ghost use Rattle.writing.specs.Text.{text};
+
+// The characters at a place, so many of them, with or without CR.
+fn write_chars(src: &[u8], at: usize, count: usize, crs: bool, area: &mut [u8], to: usize)
+    ensures { λ r. ⌜ now (area .exit) ≡ sets (now (area .entry)) to (text crs (take count (chars (drop at (now (src .entry)))))) ⌝ }
+{
+    let mut p = at;
+    let mut left = count;
+    let mut n = to;
+    while 0 < left {
+        if src.len() <= p {
+            return;
+        }
+        let c = utf8::char_at(src, p);
+        p += c.width;
+        left -= 1;
+        if crs | (c.code != 13) {
+            n = put_code(area, n, c.code);
+        }
+    }
+}
+
+// The characters at a place, so many of them.
+pub fn write_encoded(src: &[u8], at: usize, count: usize, area: &mut [u8], to: usize)
+    ensures { λ r. ⌜ now (area .exit) ≡ sets (now (area .entry)) to (encoded (take count (chars (drop at (now (src .entry)))))) ⌝ }
+{
+    write_chars(src, at, count, true, area, to);
+}
+
+// The same without CR.
+pub fn write_clean(src: &[u8], at: usize, count: usize, area: &mut [u8], to: usize)
+    ensures { λ r. ⌜ now (area .exit) ≡ sets (now (area .entry)) to (clean (take count (chars (drop at (now (src .entry)))))) ⌝ }
+{
+    write_chars(src, at, count, false, area, to);
+}

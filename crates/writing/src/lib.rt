@@ -1,0 +1,10 @@
+// Writing texts and values to an area, from a place on. Bytes that would stand past the area's end are not written.
+mod chars;
+mod number;
+mod put;
+mod value;
+
+pub use chars::write_clean;
+pub use chars::write_encoded;
+pub use number::write_number;
+pub use value::write_interpreted;

@@ -1,0 +1,56 @@
+// The value of a string.
+use crate::put::put;
+use crate::put::put_code;
+use quotes::Given;
+ghost use Prim.Native.Nat.{_≤_};
+ghost use mathlib.Core.Path.{_≡_};
+ghost use mathlib.Core.Bool.{true};
+ghost use lib.ListN.{drop};
+ghost use lib.Seq.{sets};
+ghost use Rattle.utf8.specs.Chars.{chars};
+ghost use Rattle.quotes.specs.declared.Given.the-variants.{Value};
+ghost use Rattle.quotes.specs.Escape.{bytesOf};
+ghost use Rattle.quotes.specs.Body.{body};
+ghost use Rattle.writing.specs.Writes.{Writes};
+
+// Writes what an escape gives, and answers the place after it.
+fn put_given(code: u32, byte: bool, area: &mut [u8], to: usize) -> usize
+    requires { ⌜ (byte ≡ true → code ≤ 255) ⌝ }
+    ensures { λ r. ⌜ Writes (now (area .entry)) to (bytesOf (Value code byte)) (now (area .exit)) r ⌝ }
+{
+    if byte {
+        put(area, to, code as u8)
+    } else {
+        put_code(area, to, code)
+    }
+}
+
+// The value of the string whose body stands at a place.
+pub fn write_interpreted(src: &[u8], at: usize, area: &mut [u8], to: usize)
+    ensures { λ r. ⌜ now (area .exit) ≡ sets (now (area .entry)) to (body 34 (chars (drop at (now (src .entry)))) .value) ⌝ }
+{
+    let mut p = at;
+    let mut n = to;
+    while p < src.len() {
+        let b = src[p];
+        if b == 34 {
+            return;
+        }
+        if b == 10 {
+            return;
+        }
+        if b == 92 {
+            let e = quotes::escape_at(src, p + 1, 34);
+            let given = e.given;
+            let Given::Value { code, byte } = given else {
+                return;
+            };
+            n = put_given(code, byte, area, n);
+            p += e.len + 1;
+        } else {
+            let c = utf8::char_at(src, p);
+            n = put_code(area, n, c.code);
+            p += c.width;
+        }
+    }
+}
