@@ -1,0 +1,5 @@
+pub mod Writing
+pub mod Reading
+pub mod Counts
+pub mod Kept
+pub mod Joining
