@@ -55,10 +55,3 @@ pub starts-count-end : (size o : ℕ) (cs : List Char) (c : Char) → o + length
 starts-count-end size o cs c h =
     let l = length-append cs (c ∷ []) in
     rw (starts-last size o cs c (omega (arith, l)), starts-count size o cs (omega (arith, l)), count-append isLf cs (c ∷ []), add-zero (one (isLf c)))
-
--- the size does not matter to what is read before it
-pub starts-any-size : (size other o : ℕ) (cs : List Char) → o + length cs < size → o + length cs < other → startsRead size o cs ≡ startsRead other o cs
-unfolding startsRead
-starts-any-size size other o [] h g = refl
-starts-any-size size other o (c ∷ cs) h g =
-    rw (lt-ltb (suc o) size (omega arith), lt-ltb (suc o) other (omega arith), starts-any-size size other (suc o) cs (omega arith) (omega arith))

@@ -55,3 +55,14 @@ pub read-feed : (size o : ℕ) (c : Char) (starts : List ℕ) → c .code ≡ 10
 unfolding readLines
 read-feed size o c starts e h l =
     rw (eq-eqb (c .code) 10 e, lt-ltb (lineStart starts (length starts)) (suc o) (omega arith), lt-ltb (suc o) size l)
+
+-- ---- the size does not matter to what is read before it
+pub read-any-size : (size other o : ℕ) (cs : List Char) (starts : List ℕ) → o + length cs < size → o + length cs < other → readLines size o cs starts ≡ readLines other o cs starts
+unfolding readLines
+read-any-size size other o [] starts h g = refl
+read-any-size size other o (c ∷ cs) starts h g =
+    rw (lt-ltb (suc o) size (omega arith), lt-ltb (suc o) other (omega arith)) (read-any-size size other (suc o) cs _ (omega arith) (omega arith))
+
+pub starts-any-size : (size other o : ℕ) (cs : List Char) → o + length cs < size → o + length cs < other → startsRead size o cs ≡ startsRead other o cs
+starts-any-size size other o cs h g =
+    sym (read-new size o cs [] (omega arith)) ∙ read-any-size size other o cs [] h g ∙ read-new other o cs [] (omega arith)

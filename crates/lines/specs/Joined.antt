@@ -1,6 +1,13 @@
--- The line starts of two texts that are joined.
+-- The line starts of a whole text, and of two texts that are joined.
 use Prim.Native.Nat.{ℕ, _+_}
-use mathlib.Core.List.{List, _++_, map}
+use mathlib.Core.List.{List, [], _∷_, _++_, map}
+use lib.ListN.{length}
+use Rattle.utf8.specs.declared.Char.{Char}
+use Rattle.lines.specs.Starts.{readLines}
+
+-- all that reading a text records; its first line starts at 0
+abbrev pub startsOf : List Char → List ℕ
+startsOf text = readLines (length text) 0 text (0 ∷ [])
 
 -- the starts of a first text of n characters, then those of a second, raised by n
 unfoldable pub over : ℕ → List ℕ → List ℕ → List ℕ
