@@ -3,7 +3,7 @@ use Prim.Native.Nat.{ℕ, zero, suc, _+_, _*_, _≤_, _<_}
 use mathlib.Core.Path.{_≡_, refl, sym, ap, _∙_}
 use mathlib.Core.Bool.{Bool, true, false, true≢false}
 use mathlib.Core.List.{List}
-use mathlib.Core.Logic.{_≢_, _⊎_, inl, inr}
+use mathlib.Core.Logic.{_≢_, inl, inr}
 use native.Mathlib.Omega.{arith}
 use lib.Dec.{eqb}
 use lib.ListN.{length, drop, length-drop}
@@ -17,7 +17,7 @@ use Rattle.lexer.proofs.LexLaws.{Moves, LexLaws}
 use Rattle.reading.specs.Reading.{Reading, after, opened}
 use Rattle.reading.specs.Run.{Lexer, scanned, next, run, token, tokenAt}
 use Rattle.reading.proofs.Runs.{run-shift}
-use Rattle.reading.proofs.Ending.{scanned-bound, at-end-eof, scanned-eof, eof-rest, eof-mark}
+use Rattle.reading.proofs.Ending.{at-end-eof, scanned-eof, eof-rest, eof-mark}
 
 -- the tokens before EOF are at most two for a character left, and one for the mark
 unfoldable tokensLeft : Reading → ℕ

@@ -11,7 +11,6 @@ use lib.Seq.{take-append-le, drop-append-le, take-append-add, drop-append-add, t
 use Rattle.utf8.specs.declared.Char.{Char}
 use Rattle.utf8.specs.Chars.{widths}
 use Rattle.token.specs.Kinds.{EOF}
-use Rattle.position.specs.Lines.{lineOf, columnOf}
 use Rattle.position.proofs.Lines.{AtMost, FromZero}
 use Rattle.errors.specs.declared.layout.Error.{Error}
 use Rattle.bodies.proofs.Counts.{widths-append}

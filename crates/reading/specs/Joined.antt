@@ -36,7 +36,7 @@ moveError characters lines e =
 pub record Joined (lex : Lexer) (base size : ℕ) (t₁ t₂ : List Char) (a : ℕ) : Type 0 where
   -- before the first run's EOF the joined run gives the first run's tokens
   pub first-token : (i : ℕ) → i < a → tokenAt lex base size (opened (t₁ ++ t₂)) i ≡ tokenAt lex base size (opened t₁) i
-  -- it has recorded the same line starts
+  -- after as many scans it has recorded the same line starts
   pub first-lines : (i : ℕ) → i ≤ a → run lex size (opened (t₁ ++ t₂)) i .lines ≡ run lex size (opened t₁) i .lines
   -- and the same errors
   pub first-errors : (i : ℕ) → i ≤ a → run lex size (opened (t₁ ++ t₂)) i .errors ≡ run lex size (opened t₁) i .errors
