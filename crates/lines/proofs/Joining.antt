@@ -6,17 +6,17 @@ use mathlib.Core.List.{List, [], _∷_, _++_, map, append-assoc}
 use native.Mathlib.Nat.{add-zero, zero-add, add-suc, not-suc-le-zero}
 use native.Mathlib.Omega.{arith}
 use lib.Dec.{eqb, ltb}
-use lib.ListN.{length, drop, length-append, length-map, List·getD-map}
+use lib.ListN.{length, drop, length-append, length-map, List·getD-map, List·getD-append}
 use lib.Seq.{append-snoc, getD-append-add}
-use borrow.Author.Tests.{eq-eqb}
+use borrow.Author.Tests.{lt-ltb, eq-eqb}
 use Rattle.basics.proofs.Choice.{cond-ind}
 use Rattle.basics.proofs.Lists.{getD-any}
 use Rattle.basics.proofs.Tests.{same-lt}
 use Rattle.utf8.specs.declared.Char.{Char}
 use Rattle.utf8.proofs.Ends.{Ends}
 use Rattle.bodies.specs.Body.{isLf, count}
-use Rattle.position.specs.Lines.{lineOf, lineStart, columnOf}
-use Rattle.position.proofs.Lines.{AtMost, FromZero, line-joined, column-joined}
+use Rattle.position.specs.Lines.{lineOf, lineStart, startOf, columnOf}
+use Rattle.position.proofs.Lines.{AtMost, FromZero, line-count, line-joined, column-joined}
 use Rattle.lines.specs.Starts.{recorded, readLines}
 use Rattle.lines.specs.Joined.{startsOf, over}
 use Rattle.lines.proofs.Reading.{read-append, read-new, read-feed, read-any-size}
@@ -26,6 +26,12 @@ use Rattle.lines.proofs.Kept.{read-last, read-at-most, read-from-zero}
 map-append : {A B : Type 0} (f : A → B) (s t : List A) → map f (s ++ t) ≡ map f s ++ map f t
 map-append f [] t = refl
 map-append {B = B} f (x ∷ s) t = ap (λ (r : List B). f x ∷ r) (map-append f s t)
+
+-- starts that are above the offset count for no line
+line-before : (s t : List ℕ) (o : ℕ) → lineOf t o ≡ 0 → lineOf (s ++ t) o ≡ lineOf s o
+unfolding lineOf
+line-before [] t o h = h
+line-before (x ∷ s) t o h = rw (line-before s t o h)
 
 recorded-some : (size x : ℕ) (s : List ℕ) → 1 ≤ length s → 1 ≤ length (recorded size x s)
 recorded-some size x s h =
@@ -87,6 +93,23 @@ module _ (n : ℕ) (first : List ℕ) where
     pub over-column : FromZero s → columnOf (over n first s) (n + o) ≡ columnOf s o
     unfolding over
     over-column z = column-joined n first low s o z
+
+  -- an offset of the first text keeps both
+  module _ (o : ℕ) (h : o < n) where
+    none-raised : (s : List ℕ) → lineOf (map (λ x. n + x) s) o ≡ 0
+    unfolding lineOf
+    none-raised [] = refl
+    none-raised (x ∷ s) = rw (lt-ltb o (n + x) (omega arith))
+
+    pub over-line-before : (s : List ℕ) → lineOf (over n first s) o ≡ lineOf first o
+    unfolding over
+    over-line-before s = line-before first (map (λ x. n + x) s) o (none-raised s)
+
+    pub over-column-before : (s : List ℕ) → 1 ≤ length first → columnOf (over n first s) o ≡ columnOf first o
+    unfolding over columnOf startOf
+    over-column-before s z =
+        let m = map (λ x. n + x) s in
+        rw (line-before first m o (none-raised s), List·getD-append first m 0 (lineOf first o - 1) (omega (arith, line-count first o)))
 
 -- ---- a text that ends in a line feed
 

@@ -1,5 +1,5 @@
 -- What reading keeps of the starts: the first is 0, they rise, and none is above the offset.
-use Prim.Native.Nat.{ℕ, zero, suc, _+_, _≤_, _<_}
+use Prim.Native.Nat.{ℕ, zero, suc, _+_, _-_, _≤_, _<_}
 use mathlib.Core.Path.{_≡_, refl}
 use mathlib.Core.Bool.{Bool, true, false, cond, _&&_}
 use mathlib.Core.List.{List, [], _∷_, _++_}
@@ -46,6 +46,14 @@ module _ (size o : ℕ) (cs : List Char) (s : List ℕ) where
   pub read-last : lineStart s (length s) ≤ o → lineStart (readLines size o cs s) (length (readLines size o cs s)) ≤ o + length cs
   read-last h =
       read-keeps size (λ o s. lineStart s (length s) ≤ o) (λ o s h. omega arith) (λ o s h l g. rw (last-snoc s (suc o)) (omega arith)) o cs s h
+
+-- the last start, where all are bounded
+pub last-at-most : (m : ℕ) (s : List ℕ) → AtMost m s → lineStart s (length s) ≤ m
+last-at-most m [] h = omega arith
+last-at-most m (x ∷ []) h = h .0
+last-at-most m (x ∷ y ∷ s) h =
+    let e : suc (suc (length s)) - 1 ≡ suc (suc (length s) - 1) = omega arith in
+    rw e (last-at-most m (y ∷ s) (h .1))
 
 -- the new starts
 module _ (size o : ℕ) (cs : List Char) where

@@ -1,5 +1,6 @@
 pub mod Writing
 pub mod Reading
+pub mod Written
 pub mod Counts
 pub mod Kept
 pub mod Joining

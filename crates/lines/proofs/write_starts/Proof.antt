@@ -63,7 +63,7 @@ returns-3 c =
     let l = c .before .before .before .before .before .loop in
     let a = c .before .before .before .before .before .before .before .before .before .before .args in
     let r = c .before .before .before .before .before .before .least .result in
-    sym (l .inv .2 ∙ sets-past (l .table) (l .n) (startsRead (a .size) (l .o) (take (a .offset + r - l .o) (chars (drop (l .p) (a .src .now))))) (c .if4 .taken))
+    sym (l .inv .2 ∙ sets-past (l .table) (l .n) (startsRead (a .size) (l .o) (take (a .offset + r - l .o) (chars (drop (l .p) (a .src .now))))) (omega (arith, c .if4 .taken)))
 
 mul-table : tie.Need-mul-table Inv-loop μ-loop
 mul-table c = search needs
@@ -83,7 +83,8 @@ loop-less c = search needs
 loop-again : tie.Need-loop-again Inv-loop μ-loop
 loop-again c =
     let l = c .before .before .before .before .before .loop in
-    let e = starts-feed _ _ _ _ _ (c .before .before .before .before .loop-test .taken) (l .inv .1) (c .before .before .before .if2 .left) (c .before .if3 .taken) in
+    let s = c .before .before .before .before .before .before .before .before .before .before .args .src .now in
+    let e = starts-feed _ _ s _ _ (c .before .before .before .before .loop-test .taken) (l .inv .1) (c .before .before .before .if2 .left) (c .before .if3 .taken) in
     (simp length-set (l .inv .0), l .inv .1, l .inv .2 ∙ sets-step (l .table) (l .n) e)
 
 add-p-2 : tie.Need-add-p-2 Inv-loop μ-loop
@@ -95,7 +96,8 @@ loop-less-2 c = search needs
 loop-again-2 : tie.Need-loop-again-2 Inv-loop μ-loop
 loop-again-2 c =
     let l = c .before .before .before .before .before .loop in
-    let e = starts-ascii _ _ _ _ _ (c .before .before .before .before .loop-test .taken) (l .inv .1) (c .before .before .before .if2 .left) (c .before .if3 .left) (c .if5 .taken) in
+    let s = c .before .before .before .before .before .before .before .before .before .before .args .src .now in
+    let e = starts-ascii _ _ s _ _ (c .before .before .before .before .loop-test .taken) (l .inv .1) (c .before .before .before .if2 .left) (c .before .if3 .left) (c .if5 .taken) in
     (l .inv .0, l .inv .1, l .inv .2 ∙ ap (sets (l .table) (l .n)) e)
 
 char-at-requires : tie.Need-char-at-requires Inv-loop μ-loop
@@ -114,7 +116,8 @@ loop-again-3 c =
     let d = c .before .before in
     let r = c .before .char-at in
     let l = d .before .before .before .before .before .loop in
-    let e = starts-wide _ _ _ _ _ (d .before .before .before .before .loop-test .taken) (l .inv .1) (d .before .before .before .if2 .left) (d .before .if3 .left) (r .result) (r .ensures) in
+    let s = d .before .before .before .before .before .before .before .before .before .before .args .src .now in
+    let e = starts-wide _ _ s _ _ (d .before .before .before .before .loop-test .taken) (l .inv .1) (d .before .before .before .if2 .left) (d .before .if3 .left) (r .result) (r .ensures) in
     (l .inv .0, l .inv .1, l .inv .2 ∙ ap (sets (l .table) (l .n)) e)
 
 same-length-3 : tie.Need-same-length-3 Inv-loop μ-loop
