@@ -88,7 +88,7 @@ module _ (s : List ℕ) (p : ℕ) (h : p < length s) (r : List Char) where
     slash-more e = rw (code-at s p _ 47 h refl (lit< tt), e, code-at s p _ 42 h refl (lit< tt))
 
 -- ---- one character more
-one-le : (t : Bool) → one t ≤ 1
+pub one-le : (t : Bool) → one t ≤ 1
 one-le true = lit≤ tt
 one-le false = lit≤ tt
 

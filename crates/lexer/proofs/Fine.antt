@@ -9,8 +9,8 @@ use lib.ListN.{length}
 use Rattle.utf8.specs.declared.Char.{Char}
 use Rattle.utf8.proofs.Ends.{Ends}
 use Rattle.token.specs.Kinds.{EOF}
-use Rattle.lexer.specs.Lexeme.{Lexeme, shown, insertedSemicolon}
-use Rattle.lexer.proofs.LexLaws.{Shut, Moves}
+use Rattle.lexer.specs.Lexeme.{Lexeme, Shut, shown, insertedSemicolon}
+use Rattle.lexer.proofs.LexLaws.{Moves}
 use Rattle.lexer.proofs.Known.{Known}
 
 -- x is the token of r under the mark m, x′ the one with more text behind r

@@ -20,9 +20,9 @@ use Rattle.digits.specs.Digit.{isDecimal}
 use Rattle.words.specs.Word.{isLetter}
 use Rattle.blanks.specs.Blank.{isSpace, isBlank, Skip, skip}
 use Rattle.blanks.proofs.Lengths.{skip-bound, skip-inside, skip-over, mark-stops}
-use Rattle.lexer.specs.Lexeme.{insertedSemicolon, raise}
+use Rattle.lexer.specs.Lexeme.{taken, Shut, insertedSemicolon, raise}
 use Rattle.lexer.specs.Lex.{lexBy, lexToken, lex}
-use Rattle.lexer.proofs.LexLaws.{Shut, taken, Moves, LexLaws}
+use Rattle.lexer.proofs.LexLaws.{Moves, LexLaws}
 use Rattle.lexer.proofs.Fine.{Fine, fine-cond, fine-to, fine-semicolon}
 use Rattle.lexer.proofs.Rules.{fine-word, fine-number, fine-string, fine-char, fine-raw, fine-operator, fine-dot, fine-slash}
 

@@ -1,5 +1,5 @@
 -- The laws of a scan that the theorem about joined texts needs: what each says, in words and as a statement.
-use Prim.Native.Nat.{ℕ, _+_, _≤_, _<_}
+use Prim.Native.Nat.{_≤_, _<_}
 use mathlib.Core.Path.{_≡_}
 use mathlib.Core.Bool.{Bool, true, false}
 use mathlib.Core.List.{List, [], _++_}
@@ -8,15 +8,7 @@ use lib.ListN.{length, drop}
 use Rattle.utf8.specs.declared.Char.{Char}
 use Rattle.utf8.proofs.Ends.{Ends}
 use Rattle.token.specs.Kinds.{EOF}
-use Rattle.lexer.specs.Lexeme.{Lexeme, bare, raise}
-
--- neither an open raw string (error 6) nor an open comment (error 7) was reported
-abbrev pub Shut : ℕ → Type 0
-Shut e = (e ≢ 6) × (e ≢ 7)
-
--- characters passed over and read
-abbrev pub taken : Lexeme → ℕ
-taken x = x .skipped + x .len
+use Rattle.lexer.specs.Lexeme.{Lexeme, taken, Shut, bare, raise}
 
 -- a token reads a character, or it is an inserted semicolon, which only a set mark gives and which clears it
 abbrev pub Moves : Bool → Lexeme → Type 0

@@ -2,6 +2,7 @@
 use Prim.Native.Nat.{ℕ, _+_}
 use mathlib.Core.Bool.{Bool, true, false}
 use mathlib.Core.List.{List, [], _∷_}
+use mathlib.Core.Logic.{_≢_}
 use Rattle.token.specs.Kinds.{ILLEGAL, EOF, SEMICOLON, IDENT, INT, FLOAT, IMAG, CHAR, STRING, INC, DEC, RPAREN, RBRACK, RBRACE, BREAK, CONTINUE, FALLTHROUGH, RETURN}
 use Rattle.token.specs.Precedence.{among}
 
@@ -20,6 +21,14 @@ pub record Lexeme : Type 0 where
   pub error : ℕ
   -- the pending mark that it leaves
   pub mark : Bool
+
+-- how many characters it takes: blanks and token
+abbrev pub taken : Lexeme → ℕ
+taken x = x .skipped + x .len
+
+-- an error, or 0, that is neither an open raw string (6) nor an open comment (7)
+abbrev pub Shut : ℕ → Type 0
+Shut error = (error ≢ 6) × (error ≢ 7)
 
 -- a token with a text and no value
 abbrev pub shown : ℕ → ℕ → List ℕ → ℕ → Bool → Lexeme

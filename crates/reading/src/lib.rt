@@ -1,0 +1,1 @@
+// How far a text has been read: definitions and their laws, no code.
