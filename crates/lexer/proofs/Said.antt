@@ -35,8 +35,8 @@ pub record Right (at : ℕ) (x : Lexed) (y : Lexeme) (r cs : List Char) (bytes :
   pub end : x .end ≡ at + widths cs
   pub lfs : x .lfs ≡ count isLf cs
   pub strays : x .strays ≡ count isStray cs
-  pub textBytes : x .«text_bytes» ≡ length (y .text) - 2 * count isStray cs
-  pub valueBytes : x .«value_bytes» ≡ length (y .value) - 2 * count isStray cs
+  pub textLength : lengthOf (x .«text_bytes») (x .strays) (x .«text_differs») ≡ length (y .text)
+  pub valueLength : lengthOf (x .«value_bytes») (x .strays) (x .«value_differs») ≡ length (y .value)
   pub textDiffers : x .«text_differs» ≡ textDiffersIn (y .text) bytes
   pub valueDiffers : x .«value_differs» ≡ not (same (y .value) (valueRead y bytes))
 
@@ -50,8 +50,8 @@ right-said s at x y h =
       end = h .end i;
       lfs = h .lfs i;
       strays = h .strays i;
-      textBytes = h .textBytes i;
-      valueBytes = h .valueBytes i;
+      textLength = h .textLength i;
+      valueLength = h .valueLength i;
       textDiffers = h .textDiffers i;
       valueDiffers = h .valueDiffers i;
     }

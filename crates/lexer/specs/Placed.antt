@@ -42,9 +42,9 @@ pub record Placed : Type 0 where
   -- how many of its characters are line feeds and stray bytes
   pub lfs : ℕ
   pub strays : ℕ
-  -- how many bytes text and value have, each stray byte counted as one
-  pub textBytes : ℕ
-  pub valueBytes : ℕ
+  -- how many bytes text and value have
+  pub textLength : ℕ
+  pub valueLength : ℕ
   -- are they other bytes than those of the source?
   pub textDiffers : Bool
   pub valueDiffers : Bool
@@ -66,8 +66,8 @@ placedIn at x cs bytes =
       end = at + widths cs;
       lfs = count isLf cs;
       strays = count isStray cs;
-      textBytes = length (x .text) - 2 * count isStray cs;
-      valueBytes = length (x .value) - 2 * count isStray cs;
+      textLength = length (x .text);
+      valueLength = length (x .value);
       textDiffers = textDiffersIn (x .text) bytes;
       valueDiffers = not (same (x .value) (valueRead x bytes));
     }
@@ -77,6 +77,10 @@ unfoldable pub placed : List ℕ → ℕ → Lexeme → Placed
 placed s at x =
     let cs = take (x .len) (chars (drop at s)) in
     placedIn at x cs (take (widths cs) (drop at s))
+
+-- the code counts a stray byte once; where text or value differ from the source's bytes it is written in three
+abbrev pub lengthOf : ℕ → ℕ → Bool → ℕ
+lengthOf bytes strays differs = bytes + cond differs (2 * strays) 0
 
 -- what the code's answer says
 unfoldable pub said : List ℕ → ℕ → Lexed → Placed
@@ -98,8 +102,8 @@ said s at x =
       end = x .end;
       lfs = x .lfs;
       strays = x .strays;
-      textBytes = x .«text_bytes»;
-      valueBytes = x .«value_bytes»;
+      textLength = lengthOf (x .«text_bytes») (x .strays) (x .«text_differs»);
+      valueLength = lengthOf (x .«value_bytes») (x .strays) (x .«value_differs»);
       textDiffers = x .«text_differs»;
       valueDiffers = x .«value_differs»;
     }

@@ -42,7 +42,8 @@ pub struct Lexed {
     pub code: u32,
     pub text: Text,
     pub value: Value,
-    // how many bytes text and value have, each stray byte counted as one, though its U+FFFD has three: so the number always fits
+    // how many bytes text and value have; a stray byte in one that differs from the source's bytes counts once, though it is written in three:
+    // so the numbers always fit
     pub text_bytes: usize,
     pub value_bytes: usize,
     // are they other bytes than those of the source?
