@@ -29,7 +29,7 @@ pub record AsciiFacts (n : ℕ) (s : List ℕ) (p : ℕ) : Type 0 where
   pub shown : encoded (take n (chars (drop p s))) ≡ take n (drop p s)
   pub size : length (encoded (take n (chars (drop p s)))) ≡ n
 
-encode-ascii : (b : ℕ) → b < 0x80 → encode b ≡ b ∷ []
+pub encode-ascii : (b : ℕ) → b < 0x80 → encode b ≡ b ∷ []
 unfolding encode octets
 encode-ascii b h = rw (lt-ltb b 0xD800 (omega arith), lt-ltb b 0x80 h)
 

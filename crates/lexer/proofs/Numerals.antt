@@ -1,7 +1,7 @@
 -- What is said of a number is right: how long its text is, and where it differs from the bytes read.
 use Prim.Native.Nat.{ℕ, zero, suc, _+_, _-_, _≤_, _<_}
 use mathlib.Core.Path.{_≡_, refl, sym, ap, _∙_}
-use mathlib.Core.Bool.{true, false}
+use mathlib.Core.Bool.{true, false, not, false≢true}
 use mathlib.Core.List.{List, [], _∷_, _++_}
 use native.Mathlib.Omega.{arith}
 use native.Mathlib.Nat.{add-zero}
@@ -9,7 +9,8 @@ use lib.ListN.{length, getD, take, drop, length-map}
 use lib.Seq.{getD-take}
 use borrow.Author.Tests.{ne-eqb}
 use Rattle.basics.specs.Same.{same}
-use Rattle.basics.proofs.Choice.{and-no}
+use Rattle.basics.specs.Between.{between}
+use Rattle.basics.proofs.Choice.{and-no, between-true}
 use Rattle.basics.proofs.Lists.{same-length}
 use Rattle.utf8.specs.declared.Char.{Char}
 use Rattle.utf8.specs.Chars.{ended, chars, octets, encode, encoded}
@@ -27,9 +28,8 @@ use Rattle.lexer.specs.declared.lexed.Lexed.{Lexed}
 use Rattle.lexer.specs.Words.{lexNumber}
 use Rattle.lexer.specs.Made.{gainedBy, respelledBy}
 use Rattle.lexer.specs.Placed.{textDiffersIn, placed, said}
-use Rattle.lexer.proofs.Said.{right-said}
-use Rattle.lexer.proofs.Ascii.{AsciiFacts, ascii-facts}
-use Rattle.lexer.proofs.Tokens.{text-same}
+use Rattle.lexer.proofs.Said.{right-said, exact, text-same, text-some}
+use Rattle.lexer.proofs.Ascii.{AsciiFacts, encode-ascii, ascii-facts}
 
 -- ---- how long the text is
 second-length : (bytes : List ℕ) → length (lowerSecond bytes) ≡ length bytes
@@ -59,15 +59,13 @@ gained-most OctalPrefix = omega arith
 gained-most LowerExponent = omega arith
 
 -- ---- where it differs
-changed : (text bytes : List ℕ) → 0 < length text → same text bytes ≡ false → textDiffersIn text bytes ≡ true
-changed [] bytes l e = absurd (omega arith)
-changed (b ∷ text) bytes l e = rw e
-
-second-differs : (bytes : List ℕ) → 2 ≤ length bytes → same (lowerSecond bytes) bytes ≡ false
+second-differs : (cs : List Char) → getD cs 0 ended .code < 0x80 → between 65 (getD cs 1 ended .code) 90 ≡ true → same (lowerSecond (encoded cs)) (encoded cs) ≡ false
 unfolding same
-second-differs [] h = absurd (omega arith)
-second-differs (a ∷ []) h = absurd (omega arith)
-second-differs (a ∷ b ∷ bytes) h = rw (ne-eqb (b + 32) b (λ e. omega arith), and-no)
+second-differs [] l u = absurd (false≢true u)
+second-differs (a ∷ []) l u = absurd (false≢true u)
+second-differs (a ∷ b ∷ cs) l u =
+    let c = b .code in
+    rw (encode-ascii (a .code) l, encode-ascii c (omega (arith, between-true 65 c 90 u .1)), u, ne-eqb (c + 32) c (λ e. omega arith), and-no)
 
 -- a difference behind is one of the whole
 behind : (front bytes : List ℕ) → same (lowerE bytes) bytes ≡ false → same (lowerE (front ++ bytes)) (front ++ bytes) ≡ false
@@ -81,24 +79,25 @@ exponent-differs [] i e = absurd (omega (arith, e))
 exponent-differs (c ∷ cs) zero e = rw e
 exponent-differs (c ∷ cs) (suc i) e = behind (encode (c .code)) (encoded cs) (exponent-differs cs i e)
 
-text-differs : (sp : Spelling) (cs : List Char) → Spelled sp cs (length (encoded cs)) → textDiffersIn (numberText sp (encoded cs)) (encoded cs) ≡ respelledBy sp
+text-differs : (sp : Spelling) (cs : List Char) → ((i : ℕ) → i < length (encoded cs) → getD cs i ended .code < 0x80) → Spelled sp cs (length (encoded cs))
+    → textDiffersIn (numberText sp (encoded cs)) (encoded cs) ≡ respelledBy sp
 unfolding numberText
-text-differs AsRead cs h = text-same (encoded cs) (encoded cs) refl
-text-differs LowerPrefix cs h =
+text-differs AsRead cs low h = text-same (encoded cs) (encoded cs) refl
+text-differs LowerPrefix cs low h =
     let bytes = encoded cs in
-    changed (lowerSecond bytes) bytes (omega (arith, second-length bytes)) (second-differs bytes h)
-text-differs OctalPrefix cs h =
+    text-some (lowerSecond bytes) bytes (omega (arith, second-length bytes, h .0)) ∙ ap not (second-differs cs (low 0 (omega (arith, h .0))) (h .1))
+text-differs OctalPrefix cs low h =
     let bytes = encoded cs in
     let l = gained-length bytes h in
-    changed (gainO bytes) bytes (omega (arith, l)) (same-length (gainO bytes) bytes (λ e. omega (arith, e, l)))
-text-differs LowerExponent cs h =
+    text-some (gainO bytes) bytes (omega (arith, l)) ∙ ap not (same-length (gainO bytes) bytes (λ e. omega (arith, e, l)))
+text-differs LowerExponent cs low h =
     let bytes = encoded cs in
-    changed (lowerE bytes) bytes (omega (arith, lowered-length bytes, h .1)) (exponent-differs cs (h .0) (h .2))
+    text-some (lowerE bytes) bytes (omega (arith, lowered-length bytes, h .1)) ∙ ap not (exponent-differs cs (h .0) (h .2))
 
 -- the first characters of a text tell of a spelling what the text does
 spelled-take : (sp : Spelling) (r : List Char) (n : ℕ) → Spelled sp r n → Spelled sp (take n r) n
 spelled-take AsRead r n h = tt
-spelled-take LowerPrefix r n h = h
+spelled-take LowerPrefix r n h = (h .0, rw (getD-take n r 1 ended (omega (arith, h .0))) (h .1))
 spelled-take OctalPrefix r n h = h
 spelled-take LowerExponent r n h = (h .0, h .1, ap (λ c. c .code) (getD-take n r (h .0) ended (h .1)) ∙ h .2)
 
@@ -141,14 +140,15 @@ module _ (s : List ℕ) (at : ℕ) where
       let f = number-facts in
       let cs = take (x .len) r in
       let h : Spelled (x .spelling) cs (length (encoded cs)) = rw (f .size) (spelled-take (x .spelling) r (x .len) (number-spelled r)) in
+      let low : (i : ℕ) → i < length (encoded cs) → getD cs i ended .code < 0x80 = rw (f .size) (λ i l. rw (getD-take (x .len) r i ended l) (number-ascii r i l .0)) in
       right-said s at (numeralAt (numberAt at x)) (lexNumber r)
       (record {
         lexeme = rw read;
         end = rw (f .width);
         lfs = sym (f .lfs);
         strays = sym (f .strays);
-        textBytes = rw (read, f .strays) (omega (arith, f .size, text-length (x .spelling) cs (encoded cs) h));
-        valueBytes = rw (f .strays);
-        textDiffers = rw (f .width, ← f .shown) (sym (text-differs (x .spelling) cs h));
+        textLength = exact (respelledBy (x .spelling)) _ 0 _ (rw read (omega (arith, f .size, text-length (x .spelling) cs (encoded cs) h))) (λ _. refl);
+        valueLength = refl;
+        textDiffers = rw (f .width, ← f .shown) (sym (text-differs (x .spelling) cs low h));
         valueDiffers = rw (ne-eqb (x .kind) STRING (number-kind r STRING refl));
       })

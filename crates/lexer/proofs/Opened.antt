@@ -1,20 +1,17 @@
 -- A token that opens with ASCII characters: its characters, its bytes, and those inside it.
 use Prim.Native.Nat.{ℕ, suc, _+_, _-_, _≤_, _<_}
-use mathlib.Core.Path.{_≡_, refl, ap, _∙_}
-use mathlib.Core.Bool.{Bool, true, false, cond, not}
-use mathlib.Core.List.{List, [], _∷_}
+use mathlib.Core.Path.{_≡_, ap, _∙_}
+use mathlib.Core.Bool.{Bool, true, false, cond}
+use mathlib.Core.List.{List, _∷_}
 use native.Mathlib.Omega.{arith}
-use native.Mathlib.Nat.{not-suc-le-zero}
 use lib.ListN.{length, getD, take, drop, length-drop}
 use lib.Seq.{length-take-le, take-take}
 use borrow.Author.Tests.{ne-eqb}
-use Rattle.basics.specs.Same.{same}
 use Rattle.basics.proofs.Lists.{drop-next, reach}
 use Rattle.utf8.specs.Chars.{chars, widths, isStray}
 use Rattle.utf8.proofs.First.{ascii, chars-ascii}
 use Rattle.bodies.specs.Body.{isLf, isCr, count}
 use Rattle.lexer.specs.Lexeme.{Lexeme}
-use Rattle.lexer.specs.Placed.{textDiffersIn}
 
 -- a lexeme that stands in the text, after its blanks
 abbrev pub lexemeAs : ℕ → ℕ → ℕ → ℕ → Bool → List ℕ → List ℕ → Lexeme
@@ -34,11 +31,6 @@ lexemeAs n kind error code mark text value =
 -- the character at a place that holds an ASCII byte
 pub open-chars : (s : List ℕ) (at x : ℕ) → 0 < x → x < 0x80 → getD s at 0 ≡ x → chars (drop at s) ≡ ascii x ∷ chars (drop (at + 1) s)
 open-chars s at x z l e = rw e at (chars-ascii s at (reach s at (omega arith)) (omega arith))
-
--- a token that has a text differs as its text does
-pub text-some : (text bytes : List ℕ) → 0 < length text → textDiffersIn text bytes ≡ not (same text bytes)
-text-some [] bytes h = absurd (not-suc-le-zero h)
-text-some (b ∷ text) bytes h = refl
 
 -- ---- the bytes inside a token: without its first, and without its last or with it
 inside-bytes : (s : List ℕ) (at w m : ℕ) → at + suc w ≤ length s

@@ -18,7 +18,7 @@ use Rattle.utf8.proofs.Places.{place-fits}
 use Rattle.token.specs.Kinds.{ILLEGAL, CHAR, STRING}
 use Rattle.quotes.specs.declared.Quoted.{Quoted}
 use Rattle.quotes.specs.Body.{Body, body, quotedAt, placed as bodyPlaced}
-use Rattle.quotes.proofs.Bodies.{closed-sound}
+use Rattle.quotes.proofs.Bodies.{strays-fit, closed-sound}
 use Rattle.quotes.proofs.Local.{body-bound, body-no-lf}
 use Rattle.quotes.proofs.Shown.{straysIn, body-strays, encoded-length, encoded-differs}
 use Rattle.quotes.proofs.Counts.{value-differs}
@@ -28,9 +28,9 @@ use Rattle.lexer.specs.declared.lexed.Value.{Value}
 use Rattle.lexer.specs.declared.lexed.Value.the-variants.{Empty as NoValue, Interpreted}
 use Rattle.lexer.specs.declared.lexed.Lexed.{Lexed}
 use Rattle.lexer.specs.Quotes.{stringOf, lexString, charOf, lexChar}
-use Rattle.lexer.specs.Placed.{valueOf, said, placed}
-use Rattle.lexer.proofs.Said.{right-said}
-use Rattle.lexer.proofs.Opened.{lexemeAs, open-chars, text-some, inside-token}
+use Rattle.lexer.specs.Placed.{valueOf, lengthOf, said, placed}
+use Rattle.lexer.proofs.Said.{right-said, exact, no-strays, text-some}
+use Rattle.lexer.proofs.Opened.{lexemeAs, open-chars, inside-token}
 
 -- ---- counts of characters
 strays-count : (cs : List Char) → straysIn cs ≡ count isStray cs
@@ -106,7 +106,7 @@ module _ (quote : ℕ) (some : 0 < quote) (low : quote < 0x80) (no-lf : quote �
       rw e (omega arith, omega (arith, body-bound quote rest, chars-le (drop (at + 1) s), length-drop (at + 1) s, inside))
 
   literal-said : (q : Quoted) → q ≡ quotedAt quote s (at + 1) → (kind error code : ℕ) (how : Value) (value : List ℕ) (bytes : ℕ) (differs : Bool)
-      → valueOf how rest ≡ value → bytes ≡ length value - 2 * inner .strays
+      → valueOf how rest ≡ value → lengthOf bytes (inner .strays) differs ≡ length value
       → differs ≡ not (same value (cond (eqb kind STRING) (take (size - cond (eqb error 6) 0 1) (drop (at + 1) s)) []))
       → said s at (literalAs q at kind error code how bytes differs) ≡ placed s at (lexemeAs (suc (inner .len)) kind error code true (encoded read) value)
   unfolding bodyPlaced
@@ -133,8 +133,8 @@ module _ (quote : ℕ) (some : 0 < quote) (low : quote < 0x80) (no-lf : quote �
         end = omega (arith, read-bytes);
         lfs = sym read-lfs;
         strays = sym read-strays;
-        textBytes = omega (arith, read-text, read-strays);
-        valueBytes = rw read-strays n;
+        textLength = exact (not (eqb (inner .strays) 0)) _ (inner .strays) _ (omega (arith, read-text)) (no-strays false (inner .strays));
+        valueLength = n;
         textDiffers =
             sym (text-some (encoded read) (take (widths read) (drop at s)) (omega (arith, read-text))
             ∙ encoded-differs (suc (inner .len)) s at (omega (arith, inside)) ∙ ap (λ k. not (eqb k 0)) (strays-count read ∙ read-strays));
@@ -146,7 +146,7 @@ module _ (quote : ℕ) (some : 0 < quote) (low : quote < 0x80) (no-lf : quote �
   literal-bare : (q : Quoted) → q ≡ quotedAt quote s (at + 1) → (kind error code : ℕ) → eqb kind STRING ≡ false
       → said s at (literalAs q at kind error code NoValue 0 false) ≡ placed s at (lexemeAs (suc (inner .len)) kind error code true (encoded read) [])
   unfolding same
-  literal-bare q e kind error code k = literal-said q e kind error code NoValue [] 0 false refl (omega arith) (rw k)
+  literal-bare q e kind error code k = literal-said q e kind error code NoValue [] 0 false refl refl (rw k)
 
 -- ---- strings
 module _ (s : List ℕ) (at : ℕ) (there : getD s at 0 ≡ 34) (q : Quoted) (is : q ≡ quotedAt 34 s (at + 1)) where
@@ -169,7 +169,7 @@ module _ (s : List ℕ) (at : ℕ) (there : getD s at 0 ≡ 34) (q : Quoted) (is
       let k : b .closed ≡ true = sym (ap (λ (x : Quoted). x .closed) is) ∙ h in
       let z : q .error ≡ 0 = ap (λ (x : Quoted). x .error) is ∙ closed-sound 34 (chars (drop (at + 1) s)) k in
       literal-said 34 (omega arith) (omega arith) (λ z. omega arith) s at there q is STRING (q .error) 0 Interpreted (b .value) (q .bytes) _ refl
-      (ap (λ (x : Quoted). x .bytes) is)
+      (rw is (exact (b .escaped || not (eqb (b .strays) 0)) _ (b .strays) (length (b .value)) (omega (arith, strays-fit 34 (chars (drop (at + 1) s)) 0)) (no-strays (b .escaped) (b .strays))))
       (rw z (ap (λ (x : Quoted). x .escaped || not (eqb (x .strays) 0)) is ∙ sym (value-differs 34 (omega arith) s (at + 1) k)))
       ∙ ap (placed s at) (sym (string-body ∙ rw (k, is)))
 

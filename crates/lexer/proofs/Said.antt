@@ -1,18 +1,22 @@
 -- An answer says what a lexeme is at its place: field by field.
-use Prim.Native.Nat.{ℕ, _+_, _*_, _-_}
+use Prim.Native.Nat.{ℕ, zero, suc, _+_, _*_, _<_}
 use mathlib.Core.Path.{_≡_, refl, sym}
-use mathlib.Core.Bool.{not}
-use mathlib.Core.List.{List}
-use native.Mathlib.Nat.{add-zero, sub-self}
+use mathlib.Core.Bool.{Bool, true, false, not, _||_, true≢false}
+use mathlib.Core.List.{List, [], _∷_}
+use native.Mathlib.Omega.{arith}
+use native.Mathlib.Nat.{add-zero, sub-self, not-suc-le-zero}
+use lib.Dec.{eqb}
 use lib.ListN.{length, take, drop}
+use borrow.Author.Tests.{ne-eqb}
 use Rattle.basics.specs.Same.{same}
+use Rattle.basics.proofs.Lists.{same-refl}
 use Rattle.utf8.specs.declared.Char.{Char}
 use Rattle.utf8.specs.Chars.{chars, widths, isStray}
 use Rattle.bodies.specs.Body.{isLf, count}
 use Rattle.lexer.specs.declared.lexed.Lexed.{Lexed}
 use Rattle.lexer.specs.Lexeme.{Lexeme, insertedSemicolon}
 use Rattle.lexer.specs.Made.{insertedAt}
-use Rattle.lexer.specs.Placed.{textOf, valueOf, textDiffersIn, valueRead, placed, said}
+use Rattle.lexer.specs.Placed.{textOf, valueOf, textDiffersIn, valueRead, placed, lengthOf, said}
 
 -- the lexeme that an answer tells, of the characters from its place on
 abbrev pub told : List Char → Lexed → Lexeme
@@ -56,6 +60,28 @@ right-said s at x y h =
       valueDiffers = h .valueDiffers i;
     }
 
+-- ---- how long a text or a value is: one that does not differ from the source has no stray byte
+pub exact : (differs : Bool) (bytes strays n : ℕ) → bytes + 2 * strays ≡ n → (differs ≡ false → strays ≡ 0) → lengthOf bytes strays differs ≡ n
+exact true bytes strays n e f = e
+exact false bytes strays n e f = rw (f refl) at e
+
+-- what differs where there is a stray byte
+pub no-strays : (other : Bool) (strays : ℕ) → other || not (eqb strays 0) ≡ false → strays ≡ 0
+no-strays true strays e = absurd (true≢false e)
+no-strays false zero e = refl
+no-strays false (suc n) e = absurd (true≢false (rw (ne-eqb (suc n) 0 (λ z. omega arith)) at e))
+
+-- ---- whether a text differs
+-- one that is the bytes read does not
+pub text-same : (text bytes : List ℕ) → text ≡ bytes → textDiffersIn text bytes ≡ false
+text-same [] bytes e = refl
+text-same (b ∷ text) bytes e = rw (← e, same-refl (b ∷ text))
+
+-- one that is not empty does where its bytes do
+pub text-some : (text bytes : List ℕ) → 0 < length text → textDiffersIn text bytes ≡ not (same text bytes)
+text-some [] bytes h = absurd (not-suc-le-zero h)
+text-some (b ∷ text) bytes h = refl
+
 -- an inserted semicolon reads nothing
 pub semicolon-said : (s : List ℕ) (at : ℕ) → said s at (insertedAt at) ≡ placed s at insertedSemicolon
 unfolding same
@@ -66,8 +92,8 @@ semicolon-said s at =
       end = sym (add-zero at);
       lfs = refl;
       strays = refl;
-      textBytes = refl;
-      valueBytes = refl;
+      textLength = refl;
+      valueLength = refl;
       textDiffers = refl;
       valueDiffers = refl;
     })

@@ -11,7 +11,7 @@ use Rattle.utf8.specs.declared.Char.{Char}
 use Rattle.utf8.specs.Chars.{chars, peek, widths, isStray}
 use Rattle.utf8.proofs.First.{chars-le}
 use Rattle.utf8.proofs.Places.{place-fits}
-use Rattle.token.specs.Kinds.{SEMICOLON, STRING, COMMENT}
+use Rattle.token.specs.Kinds.{STRING, COMMENT}
 use Rattle.bodies.specs.declared.body.Body.{Body}
 use Rattle.bodies.specs.Span.{Span, toStop, toStarSlash}
 use Rattle.bodies.specs.Body.{isCr, count, bodyOf, clean}
@@ -28,9 +28,9 @@ use Rattle.lexer.specs.Lexeme.{insertedSemicolon}
 use Rattle.lexer.specs.Quotes.{rawInside, rawOf, lexRaw}
 use Rattle.lexer.specs.Comments.{lineComment, generalComment, comment, lexComment}
 use Rattle.lexer.specs.Made.{insertedAt}
-use Rattle.lexer.specs.Placed.{textOf, valueOf, textDiffersIn, said, placed}
-use Rattle.lexer.proofs.Said.{right-said}
-use Rattle.lexer.proofs.Opened.{lexemeAs, Opened, opened-raw, opened-comment, open-chars, comment-chars, text-some, inside-token}
+use Rattle.lexer.specs.Placed.{textOf, valueOf, textDiffersIn, lengthOf, said, placed}
+use Rattle.lexer.proofs.Said.{right-said, exact, no-strays, text-some, semicolon-said}
+use Rattle.lexer.proofs.Opened.{lexemeAs, Opened, opened-raw, opened-comment, open-chars, comment-chars, inside-token}
 
 -- a token by its body, with what the code sets itself
 abbrev pub bodyAs : Body → ℕ → ℕ → ℕ → Bool → Text → Value → ℕ → ℕ → Bool → Bool → Lexed
@@ -91,9 +91,12 @@ module _ (s : List ℕ) (at n : ℕ) (o : Opened s at n) (sp : Span) where
   text-length =
       sym (ap (λ k. length (clean read) + k) (o .crs (sp .len))) ∙ clean-length s (n + sp .len) at ∙ ap (λ k. k + 2 * count isStray read) (o .bytes (sp .len))
 
-  text-bytes : (b : Body) → b ≡ bodyOf (at + n) sp rest → bytesOf b at ≡ length (clean read) - 2 * count isStray read
+  text-counted : (b : Body) → b ≡ bodyOf (at + n) sp rest → bytesOf b at + 2 * b .strays ≡ length (clean read)
   unfolding bodyOf
-  text-bytes b e = rw e (omega (arith, text-length))
+  text-counted b e = rw e (omega (arith, text-length, crs-fit, o .strays (sp .len)))
+
+  text-exact : (b : Body) → b ≡ bodyOf (at + n) sp rest → lengthOf (bytesOf b at) (b .strays) (differsOf b) ≡ length (clean read)
+  text-exact b e = exact (differsOf b) (bytesOf b at) (b .strays) (length (clean read)) (text-counted b e) (no-strays (not (eqb (b .crs) 0)) (b .strays))
 
   text-differs : 0 < n → (b : Body) → b ≡ bodyOf (at + n) sp rest → differsOf b ≡ textDiffersIn (clean read) (take (widths read) (drop at s))
   unfolding bodyOf
@@ -103,7 +106,7 @@ module _ (s : List ℕ) (at n : ℕ) (o : Opened s at n) (sp : Span) where
 
   span-said : (b : Body) → b ≡ bodyOf (at + n) sp rest → (kind error : ℕ) (mark : Bool) (how : Text) (way : Value) (text value : List ℕ) (bytes inside : ℕ) (differs other : Bool)
       → textOf how read ≡ text → valueOf way (drop 1 (chars (drop at s))) ≡ value
-      → bytes ≡ length text - 2 * count isStray read → inside ≡ length value - 2 * count isStray read
+      → lengthOf bytes (b .strays) differs ≡ length text → lengthOf inside (b .strays) other ≡ length value
       → differs ≡ textDiffersIn text (take (widths read) (drop at s))
       → other ≡ not (same value (cond (eqb kind STRING) (take (length (take (widths read) (drop at s)) - cond (eqb error 6) 1 2) (drop 1 (take (widths read) (drop at s)))) []))
       → said s at (bodyAs b n kind error mark how way bytes inside differs other) ≡ placed s at (lexemeAs (n + sp .len) kind error 0 mark text value)
@@ -130,8 +133,8 @@ module _ (s : List ℕ) (at n : ℕ) (o : Opened s at n) (sp : Span) where
         end = omega (arith, o .bytes (sp .len));
         lfs = sym (o .lfs (sp .len));
         strays = sym (o .strays (sp .len));
-        textBytes = f;
-        valueBytes = g;
+        textLength = rw e at f;
+        valueLength = rw e at g;
         textDiffers = h;
         valueDiffers = k;
       }))
@@ -168,24 +171,24 @@ module _ (s : List ℕ) (at : ℕ) (there : getD s at 0 ≡ 96) (b : Body) (is :
   -- the bytes of the value are the first k characters behind the backquote, of w bytes, with the CRs and stray bytes of the whole
   raw-value : (k : ℕ) → rawInside rawSpan ≡ k → count isCr (take (rawSpan .len) (chars (drop (at + 1) s))) ≡ count isCr (take k (chars (drop (at + 1) s)))
       → count isStray (take (rawSpan .len) (chars (drop (at + 1) s))) ≡ count isStray (take k (chars (drop (at + 1) s)))
-      → (length rawValue + b .crs ≡ widths (take k (chars (drop (at + 1) s))) + 2 * count isStray rawRead)
+      → (length rawValue + b .crs ≡ widths (take k (chars (drop (at + 1) s))) + 2 * b .strays)
       × (differsOf b ≡ not (same rawValue (take (widths (take k (chars (drop (at + 1) s)))) (drop (at + 1) s))))
   unfolding bodyOf
   raw-value k e c t =
       let r = chars (drop (at + 1) s) in
-      let z = raw-opened .strays (rawSpan .len) ∙ t in
       rw (is, e) (
-        ap (λ m. length (clean (take k r)) + m) c ∙ clean-length s k (at + 1) ∙ ap (λ m. widths (take k r) + 2 * m) (sym z),
+        ap (λ m. length (clean (take k r)) + m) c ∙ clean-length s k (at + 1) ∙ ap (λ m. widths (take k r) + 2 * m) (sym t),
         rw (c, t) (sym (clean-differs s k (at + 1) (raw-opened .within))),
       )
 
-  raw-said : (error : ℕ) → cond (rawSpan .closed) 0 6 ≡ error → (inside : ℕ) → inside ≡ length rawValue - 2 * count isStray rawRead
+  raw-said : (error : ℕ) → cond (rawSpan .closed) 0 6 ≡ error → (inside : ℕ) → inside + 2 * b .strays ≡ length rawValue
       → differsOf b ≡ not (same rawValue (take (widths (take (rawSpan .len) (chars (drop (at + 1) s))) - cond (eqb error 6) 0 1) (drop (at + 1) s)))
       → said s at (bodyAs b 1 STRING error true WithoutCr Raw (bytesOf b at) inside (differsOf b) (differsOf b)) ≡ placed s at (lexRaw (chars (drop at s)))
   raw-said error e inside n d =
       let w : widths rawRead ≡ suc (widths (take (rawSpan .len) (chars (drop (at + 1) s)))) = omega (arith, raw-opened .bytes (rawSpan .len)) in
       span-said s at 1 raw-opened rawSpan b is STRING error true WithoutCr Raw (clean rawRead) rawValue (bytesOf b at) inside (differsOf b) (differsOf b) refl
-      (ap (valueOf Raw) raw-rest) (text-bytes s at 1 raw-opened rawSpan b is) n (text-differs s at 1 raw-opened rawSpan (omega arith) b is)
+      (ap (valueOf Raw) raw-rest) (text-exact s at 1 raw-opened rawSpan b is)
+      (exact (differsOf b) inside (b .strays) (length rawValue) n (no-strays (not (eqb (b .crs) 0)) (b .strays))) (text-differs s at 1 raw-opened rawSpan (omega arith) b is)
       (d ∙ ap (λ l. not (same rawValue l)) (sym (inside-token (eqb error 6) s at (widths rawRead) _ w (read-fits s at 1 raw-opened rawSpan))))
       ∙ ap (placed s at) (sym (raw-lexeme ∙ ap (λ k. lexemeAs (1 + rawSpan .len) STRING k 0 true (clean rawRead) rawValue) e))
 
@@ -209,7 +212,7 @@ module _ (s : List ℕ) (at : ℕ) (there : getD s at 0 ≡ 96) (b : Body) (is :
         let v = raw-value (rawSpan .len - 1) (rw closed) (i .crs) (i .strays) in
         let w : widths (take (rawSpan .len) r) - 1 ≡ widths (take (rawSpan .len - 1) r) = omega (arith, i .bytes) in
         let end : b .end ≡ at + 1 + widths (take (rawSpan .len) r) = ap (λ (x : Body). x .end) is in
-        raw-said 0 (rw closed) (bytesOf b at - 2) (omega (arith, v .0, i .bytes, end)) (v .1 ∙ ap (λ m. not (same rawValue (take m (drop (at + 1) s)))) (sym w))
+        raw-said 0 (rw closed) (bytesOf b at - 2) (omega (arith, v .0, i .bytes, end, raw-two)) (v .1 ∙ ap (λ m. not (same rawValue (take m (drop (at + 1) s)))) (sym w))
 
   pub raw-one : 1 ≤ bytesOf b at
   unfolding bodyOf
@@ -223,7 +226,7 @@ module _ (s : List ℕ) (at : ℕ) (there : getD s at 0 ≡ 96) (b : Body) (is :
       let v = raw-value (rawSpan .len) (rw c) refl refl in
       let w : widths (take (rawSpan .len) r) - 0 ≡ widths (take (rawSpan .len) r) = omega arith in
       let end : b .end ≡ at + 1 + widths (take (rawSpan .len) r) = ap (λ (x : Body). x .end) is in
-      raw-said 6 (rw c) (bytesOf b at - 1) (omega (arith, v .0, end)) (v .1 ∙ ap (λ m. not (same rawValue (take m (drop (at + 1) s)))) (sym w))
+      raw-said 6 (rw c) (bytesOf b at - 1) (omega (arith, v .0, end, raw-one)) (v .1 ∙ ap (λ m. not (same rawValue (take m (drop (at + 1) s)))) (sym w))
 
 -- ---- comments
 module _ (s : List ℕ) (at : ℕ) (first : getD s at 0 ≡ 47) (mark : Bool) (b : Body) where
@@ -235,7 +238,7 @@ module _ (s : List ℕ) (at : ℕ) (first : getD s at 0 ≡ 47) (mark : Bool) (b
   comment-said x l h second sp is error =
       let o = opened-comment s at x l h first second in
       span-said s at 2 o sp b is COMMENT error mark WithoutCr NoValue _ [] (bytesOf b at) 0 (differsOf b) false refl refl
-      (text-bytes s at 2 o sp b is) (omega arith) (text-differs s at 2 o sp (omega arith) b is) refl
+      (text-exact s at 2 o sp b is) refl (text-differs s at 2 o sp (omega arith) b is) refl
 
   module _ (second : getD s (at + 1) 0 ≡ 47) (is : b ≡ bodyOf (at + 2) (toStop 10 (chars (drop (at + 2) s))) (chars (drop (at + 2) s))) where
     abbrev lineSpan : Span
@@ -276,7 +279,7 @@ module _ (s : List ℕ) (at : ℕ) (first : getD s at 0 ≡ 47) (mark : Bool) (b
         let fed : List ℕ = clean lineRead ++ (10 ∷ []) in
         let n = length-append (clean lineRead) (10 ∷ []) in
         span-said s at 2 o lineSpan b is COMMENT 0 mark WithLf NoValue fed [] (bytesOf b at + 1) 0 true false refl refl
-        (omega (arith, n, text-bytes s at 2 o lineSpan b is, text-length s at 2 o lineSpan, crs-fit s at 2 o lineSpan)) (omega arith)
+        (omega (arith, n, text-counted s at 2 o lineSpan b is)) refl
         (sym (text-some fed bytes (omega (arith, n)) ∙ ap not (clean-fed s (2 + lineSpan .len) at (omega (arith, o .within))))) refl
         ∙ ap (placed s at) (sym (line-lexeme ∙ rw c))
 
@@ -304,23 +307,6 @@ module _ (s : List ℕ) (at : ℕ) (first : getD s at 0 ≡ 47) (mark : Bool) (b
         ∙ ap (placed s at) (sym (general-lexeme ∙ rw c))
 
 -- ---- a comment that ends its line
-pub semicolon-said : (s : List ℕ) (at : ℕ) → said s at (insertedAt at) ≡ placed s at insertedSemicolon
-unfolding same
-semicolon-said s at =
-    let n : at - at ≡ 0 = omega arith in
-    right-said s at (insertedAt at) insertedSemicolon
-    (record {
-      lexeme =
-          λ i. record { skipped = 0; len = n i; kind = SEMICOLON; inserted = true; text = []; value = []; code = 0; error = 0; mark = false };
-      end = omega arith;
-      lfs = refl;
-      strays = refl;
-      textBytes = refl;
-      valueBytes = refl;
-      textDiffers = refl;
-      valueDiffers = refl;
-    })
-
 module _ (s : List ℕ) (at x : ℕ) (some : 0 < x) (low : x < 0x80) (first : getD s at 0 ≡ 47) (second : getD s (at + 1) 0 ≡ x) (mark : Bool) where
   comment-ends : lexComment mark (chars (drop at s))
       ≡ cond (mark && (eqb x 47 || endsLine false (chars (drop (at + 2) s)))) insertedSemicolon (comment mark (chars (drop at s)))

@@ -12,7 +12,7 @@ use lib.Seq.{length-take-le, take-all}
 use borrow.Author.Tests.{ne-eqb, eq-eqb, eqb-true, ltb-true}
 use Rattle.basics.specs.Same.{same}
 use Rattle.basics.proofs.Choice.{cond-ind, either, and-left, and-right, and-split}
-use Rattle.basics.proofs.Lists.{same-refl, same-length}
+use Rattle.basics.proofs.Lists.{same-length}
 use Rattle.utf8.specs.declared.Char.{Char}
 use Rattle.utf8.specs.Chars.{ended, firstChar, charAt, chars, widths, isStray, encode, encoded}
 use Rattle.utf8.proofs.First.{chars-at, charAt-in, chars-le, first-fits}
@@ -36,13 +36,8 @@ use Rattle.lexer.specs.Lex.{lexIllegal, lexOperator}
 use Rattle.lexer.specs.Made.{madeAt, shownAt}
 use Rattle.lexer.specs.Placed.{textDiffersIn, placed, said}
 use Rattle.lexer.proofs.Known.{word-no-string, operator-no-string}
-use Rattle.lexer.proofs.Said.{right-said}
+use Rattle.lexer.proofs.Said.{right-said, exact, text-same, text-some}
 use Rattle.lexer.proofs.Ascii.{Ascii, ascii-none, ascii-facts}
-
--- a text that is the bytes read does not differ from them
-pub text-same : (text bytes : List ℕ) → text ≡ bytes → textDiffersIn text bytes ≡ false
-text-same [] bytes e = refl
-text-same (b ∷ text) bytes e = rw (← e, same-refl (b ∷ text))
 
 -- ---- tokens of n ASCII characters
 module _ (s : List ℕ) (at end n kind : ℕ) (mark : Bool) (a : Ascii n (chars (drop at s))) (e : end ≡ at + n) (k : kind ≢ STRING) where
@@ -59,8 +54,8 @@ module _ (s : List ℕ) (at end n kind : ℕ) (mark : Bool) (a : Ascii n (chars 
         end = rw (f .width) e;
         lfs = sym (f .lfs);
         strays = sym (f .strays);
-        textBytes = rw (f .strays);
-        valueBytes = rw (f .strays);
+        textLength = refl;
+        valueLength = refl;
         textDiffers = refl;
         valueDiffers = rw (ne-eqb kind STRING k);
       })
@@ -76,8 +71,8 @@ module _ (s : List ℕ) (at end n kind : ℕ) (mark : Bool) (a : Ascii n (chars 
         end = rw (f .width) e;
         lfs = sym (f .lfs);
         strays = sym (f .strays);
-        textBytes = rw (read, f .strays, f .size) (omega arith);
-        valueBytes = rw (f .strays);
+        textLength = rw (read, f .size) (add-zero n);
+        valueLength = refl;
         textDiffers = sym (text-same text (take (widths (take n (chars (drop at s)))) (drop at s)) (rw (f .width) (f .shown)));
         valueDiffers = rw (ne-eqb kind STRING k);
       })
@@ -215,11 +210,6 @@ illegalAt at width mark stray =
       «value_differs» = false;
     }
 
--- a text of another length differs
-text-other : (text bytes : List ℕ) → length text ≢ length bytes → 0 < length text → textDiffersIn text bytes ≡ true
-text-other [] bytes n h = absurd (not-suc-le-zero h)
-text-other (b ∷ text) bytes n h = rw (same-length (b ∷ text) bytes n)
-
 module _ (s : List ℕ) (at : ℕ) (h : at < length s) where
   some : 0 < length (drop at s)
   some = omega (arith, length-drop at s)
@@ -234,7 +224,7 @@ module _ (s : List ℕ) (at : ℕ) (h : at < length s) where
       ⊎-elim
       (λ (t : isStray f ≡ true).
       let long : length text ≡ f .width + 2 = rw append-nil (stray-there s at h ∙ rw t) in
-      text-other text bytes (λ e. omega (arith, e, long, size)) (omega (arith, long)) ∙ sym t)
+      text-some text bytes (omega (arith, long)) ∙ ap not (same-length text bytes (λ e. omega (arith, e, long, size))) ∙ sym t)
       (λ (t : isStray f ≡ false). text-same text bytes (append-nil (encode (f .code)) ∙ first-coded (drop at s) some t) ∙ sym t)
       (either (isStray f))
 
@@ -250,8 +240,8 @@ module _ (s : List ℕ) (at : ℕ) (h : at < length s) where
           end = rw e (omega arith);
           lfs = rw (e, code-there s at 10 h (lit< tt), no-lf);
           strays = rw e (sym (add-zero _));
-          textBytes = rw (e, append-nil, stray-there s at h) (omega arith);
-          valueBytes = rw e (omega arith);
+          textLength = exact (isStray f) (at + f .width - at) (cond (isStray f) 1 0) _ (rw (e, append-nil, stray-there s at h) (omega arith)) (λ t. rw t);
+          valueLength = refl;
           textDiffers = rw (e, add-zero) (sym differs);
           valueDiffers = refl;
         })

@@ -11,6 +11,7 @@ use lib.Dec.{T, leb, eqb, lit<, lit≤}
 use lib.ListN.{length, getD, drop}
 use lib.Seq.{drop-drop, getD-drop}
 use borrow.Author.Tests.{eqb-true, lt-ltb}
+use Rattle.basics.specs.Between.{between}
 use Rattle.basics.proofs.Choice.{cond-ind, either, between-true, in-between}
 use Rattle.utf8.specs.declared.Char.{Char}
 use Rattle.utf8.specs.Chars.{ended, peek}
@@ -27,16 +28,16 @@ use Rattle.numbers.proofs.Runs.{Plain, plain-none, plain-more, plain-wi
 abbrev pub isNumeric : ℕ → Bool
 isNumeric kind = among kind (ILLEGAL ∷ INT ∷ FLOAT ∷ IMAG ∷ [])
 
--- what a spelling tells of the first n characters: a prefix, a 0, an E
+-- what a spelling tells of the first n characters: a prefix in upper case, a 0, an E
 abbrev pub Spelled : Spelling → List Char → ℕ → Type 0
 Spelled AsRead r n = Unit
-Spelled LowerPrefix r n = 2 ≤ n
+Spelled LowerPrefix r n = (2 ≤ n) × (between 65 (getD r 1 ended .code) 90 ≡ true)
 Spelled OctalPrefix r n = 1 ≤ n
 Spelled LowerExponent r n = (i : ℕ) × (i < n) × (getD r i ended .code ≡ 69)
 
 spelled-on : (sp : Spelling) (r : List Char) (n m : ℕ) → Spelled sp r n → Spelled sp r (n + m)
 spelled-on AsRead r n m h = tt
-spelled-on LowerPrefix r n m h = omega arith
+spelled-on LowerPrefix r n m h = (omega (arith, h .0), h .1)
 spelled-on OctalPrefix r n m h = omega arith
 spelled-on LowerExponent r n m h = (h .0, omega (arith, h .1), h .2)
 
@@ -170,20 +171,20 @@ module _ (r : List Char) where
           cond-ind Read (isDecimal (peek (drop 1 r))) _ _
           (λ _. prefixed-read 8 2 OctalPrefix (lit≤ tt) 1 (record { plain = first; spelled = lit≤ tt; some = λ _. lit< tt })) (λ _. decimal-read)
 
-      letter-read : (x base error : ℕ) (sp : Spelling) → 0 < x → x < 0x80 → x ≢ 10 → base ≤ 16 → Spelled sp r 2 → eqb (peek (drop 1 r)) x ≡ true
+      letter-read : (x base error : ℕ) (sp : Spelling) → 0 < x → x < 0x80 → x ≢ 10 → base ≤ 16 → (getD r 1 ended .code ≡ x → Spelled sp r 2) → eqb (peek (drop 1 r)) x ≡ true
           → Read (after 2 (prefixed base error sp (drop 2 r)))
       letter-read x base error sp l h k b s e =
-          prefixed-read base error sp b 2 (record { plain = plain-add 1 1 r first (plain-one (drop 1 r) x l h k e); spelled = s; some = λ _. lit< tt })
+          prefixed-read base error sp b 2 (record { plain = plain-add 1 1 r first (plain-one (drop 1 r) x l h k e); spelled = s (sym (peek-at 1 r) ∙ eqb-true _ _ e); some = λ _. lit< tt })
 
       zero-read : Read (leadingZero r)
       unfolding leadingZero
       zero-read =
-          cond-ind Read (eqb (peek (drop 1 r)) 120) _ _ (letter-read 120 16 3 AsRead (lit< tt) (lit< tt) (λ z. omega arith) (lit≤ tt) tt)
-          (λ _. cond-ind Read (eqb (peek (drop 1 r)) 88) _ _ (letter-read 88 16 3 LowerPrefix (lit< tt) (lit< tt) (λ z. omega arith) (lit≤ tt) (lit≤ tt))
-          (λ _. cond-ind Read (eqb (peek (drop 1 r)) 111) _ _ (letter-read 111 8 2 AsRead (lit< tt) (lit< tt) (λ z. omega arith) (lit≤ tt) tt)
-          (λ _. cond-ind Read (eqb (peek (drop 1 r)) 79) _ _ (letter-read 79 8 2 LowerPrefix (lit< tt) (lit< tt) (λ z. omega arith) (lit≤ tt) (lit≤ tt))
-          (λ _. cond-ind Read (eqb (peek (drop 1 r)) 98) _ _ (letter-read 98 2 1 AsRead (lit< tt) (lit< tt) (λ z. omega arith) (lit≤ tt) tt)
-          (λ _. cond-ind Read (eqb (peek (drop 1 r)) 66) _ _ (letter-read 66 2 1 LowerPrefix (lit< tt) (lit< tt) (λ z. omega arith) (lit≤ tt) (lit≤ tt)) (λ _. bare-read))))))
+          cond-ind Read (eqb (peek (drop 1 r)) 120) _ _ (letter-read 120 16 3 AsRead (lit< tt) (lit< tt) (λ z. omega arith) (lit≤ tt) (λ _. tt))
+          (λ _. cond-ind Read (eqb (peek (drop 1 r)) 88) _ _ (letter-read 88 16 3 LowerPrefix (lit< tt) (lit< tt) (λ z. omega arith) (lit≤ tt) (λ z. (lit≤ tt, rw z)))
+          (λ _. cond-ind Read (eqb (peek (drop 1 r)) 111) _ _ (letter-read 111 8 2 AsRead (lit< tt) (lit< tt) (λ z. omega arith) (lit≤ tt) (λ _. tt))
+          (λ _. cond-ind Read (eqb (peek (drop 1 r)) 79) _ _ (letter-read 79 8 2 LowerPrefix (lit< tt) (lit< tt) (λ z. omega arith) (lit≤ tt) (λ z. (lit≤ tt, rw z)))
+          (λ _. cond-ind Read (eqb (peek (drop 1 r)) 98) _ _ (letter-read 98 2 1 AsRead (lit< tt) (lit< tt) (λ z. omega arith) (lit≤ tt) (λ _. tt))
+          (λ _. cond-ind Read (eqb (peek (drop 1 r)) 66) _ _ (letter-read 66 2 1 LowerPrefix (lit< tt) (lit< tt) (λ z. omega arith) (lit≤ tt) (λ z. (lit≤ tt, rw z))) (λ _. bare-read))))))
 
   pub without-read : Read (withoutI r)
   unfolding withoutI
