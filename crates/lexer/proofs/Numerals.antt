@@ -28,7 +28,7 @@ use Rattle.lexer.specs.declared.lexed.Lexed.{Lexed}
 use Rattle.lexer.specs.Words.{lexNumber}
 use Rattle.lexer.specs.Made.{gainedBy, respelledBy}
 use Rattle.lexer.specs.Placed.{textDiffersIn, placed, said}
-use Rattle.lexer.proofs.Said.{right-said, exact, text-same, text-some}
+use Rattle.lexer.proofs.Said.{right-said, exact-length, text-same, text-some}
 use Rattle.lexer.proofs.Ascii.{AsciiFacts, encode-ascii, ascii-facts}
 
 -- ---- how long the text is
@@ -147,7 +147,7 @@ module _ (s : List ℕ) (at : ℕ) where
         end = rw (f .width);
         lfs = sym (f .lfs);
         strays = sym (f .strays);
-        textLength = exact (respelledBy (x .spelling)) _ 0 _ (rw read (omega (arith, f .size, text-length (x .spelling) cs (encoded cs) h))) (λ _. refl);
+        textLength = exact-length (respelledBy (x .spelling)) _ 0 _ (rw read (omega (arith, f .size, text-length (x .spelling) cs (encoded cs) h))) (λ _. refl);
         valueLength = refl;
         textDiffers = rw (f .width, ← f .shown) (sym (text-differs (x .spelling) cs low h));
         valueDiffers = rw (ne-eqb (x .kind) STRING (number-kind r STRING refl));

@@ -29,7 +29,7 @@ use Rattle.lexer.specs.declared.lexed.Value.the-variants.{Empty as NoVal
 use Rattle.lexer.specs.declared.lexed.Lexed.{Lexed}
 use Rattle.lexer.specs.Quotes.{stringOf, lexString, charOf, lexChar}
 use Rattle.lexer.specs.Placed.{valueOf, lengthOf, said, placed}
-use Rattle.lexer.proofs.Said.{right-said, exact, no-strays, text-some}
+use Rattle.lexer.proofs.Said.{right-said, exact-with-strays, text-some}
 use Rattle.lexer.proofs.Opened.{lexemeAs, open-chars, inside-token}
 
 -- ---- counts of characters
@@ -133,7 +133,7 @@ module _ (quote : ℕ) (some : 0 < quote) (low : quote < 0x80) (no-lf : quote �
         end = omega (arith, read-bytes);
         lfs = sym read-lfs;
         strays = sym read-strays;
-        textLength = exact (not (eqb (inner .strays) 0)) _ (inner .strays) _ (omega (arith, read-text)) (no-strays false (inner .strays));
+        textLength = exact-with-strays false _ (inner .strays) _ (omega (arith, read-text));
         valueLength = n;
         textDiffers =
             sym (text-some (encoded read) (take (widths read) (drop at s)) (omega (arith, read-text))
@@ -169,7 +169,7 @@ module _ (s : List ℕ) (at : ℕ) (there : getD s at 0 ≡ 34) (q : Quoted) (is
       let k : b .closed ≡ true = sym (ap (λ (x : Quoted). x .closed) is) ∙ h in
       let z : q .error ≡ 0 = ap (λ (x : Quoted). x .error) is ∙ closed-sound 34 (chars (drop (at + 1) s)) k in
       literal-said 34 (omega arith) (omega arith) (λ z. omega arith) s at there q is STRING (q .error) 0 Interpreted (b .value) (q .bytes) _ refl
-      (rw is (exact (b .escaped || not (eqb (b .strays) 0)) _ (b .strays) (length (b .value)) (omega (arith, strays-fit 34 (chars (drop (at + 1) s)) 0)) (no-strays (b .escaped) (b .strays))))
+      (rw is (exact-with-strays (b .escaped) _ (b .strays) (length (b .value)) (omega (arith, strays-fit 34 (chars (drop (at + 1) s)) 0))))
       (rw z (ap (λ (x : Quoted). x .escaped || not (eqb (x .strays) 0)) is ∙ sym (value-differs 34 (omega arith) s (at + 1) k)))
       ∙ ap (placed s at) (sym (string-body ∙ rw (k, is)))
 

@@ -61,15 +61,18 @@ right-said s at x y h =
     }
 
 -- ---- how long a text or a value is: one that does not differ from the source has no stray byte
-pub exact : (differs : Bool) (bytes strays n : ℕ) → bytes + 2 * strays ≡ n → (differs ≡ false → strays ≡ 0) → lengthOf bytes strays differs ≡ n
-exact true bytes strays n e f = e
-exact false bytes strays n e f = rw (f refl) at e
+pub exact-length : (differs : Bool) (bytes strays n : ℕ) → bytes + 2 * strays ≡ n → (differs ≡ false → strays ≡ 0) → lengthOf bytes strays differs ≡ n
+exact-length true bytes strays n e f = e
+exact-length false bytes strays n e f = rw (f refl) at e
 
--- what differs where there is a stray byte
-pub no-strays : (other : Bool) (strays : ℕ) → other || not (eqb strays 0) ≡ false → strays ≡ 0
+no-strays : (other : Bool) (strays : ℕ) → other || not (eqb strays 0) ≡ false → strays ≡ 0
 no-strays true strays e = absurd (true≢false e)
 no-strays false zero e = refl
 no-strays false (suc n) e = absurd (true≢false (rw (ne-eqb (suc n) 0 (λ z. omega arith)) at e))
+
+-- one that differs wherever there is a stray byte
+pub exact-with-strays : (other : Bool) (bytes strays n : ℕ) → bytes + 2 * strays ≡ n → lengthOf bytes strays (other || not (eqb strays 0)) ≡ n
+exact-with-strays other bytes strays n e = exact-length (other || not (eqb strays 0)) bytes strays n e (no-strays other strays)
 
 -- ---- whether a text differs
 -- one that is the bytes read does not

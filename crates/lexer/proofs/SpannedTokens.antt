@@ -29,7 +29,7 @@ use Rattle.lexer.specs.Quotes.{rawInside, rawOf, lexRaw}
 use Rattle.lexer.specs.Comments.{lineComment, generalComment, comment, lexComment}
 use Rattle.lexer.specs.Made.{insertedAt}
 use Rattle.lexer.specs.Placed.{textOf, valueOf, textDiffersIn, lengthOf, said, placed}
-use Rattle.lexer.proofs.Said.{right-said, exact, no-strays, text-some, semicolon-said}
+use Rattle.lexer.proofs.Said.{right-said, exact-with-strays, text-some, semicolon-said}
 use Rattle.lexer.proofs.Opened.{lexemeAs, Opened, opened-raw, opened-comment, open-chars, comment-chars, inside-token}
 
 -- a token by its body, with what the code sets itself
@@ -96,7 +96,7 @@ module _ (s : List ℕ) (at n : ℕ) (o : Opened s at n) (sp : Span) where
   text-counted b e = rw e (omega (arith, text-length, crs-fit, o .strays (sp .len)))
 
   text-exact : (b : Body) → b ≡ bodyOf (at + n) sp rest → lengthOf (bytesOf b at) (b .strays) (differsOf b) ≡ length (clean read)
-  text-exact b e = exact (differsOf b) (bytesOf b at) (b .strays) (length (clean read)) (text-counted b e) (no-strays (not (eqb (b .crs) 0)) (b .strays))
+  text-exact b e = exact-with-strays (not (eqb (b .crs) 0)) (bytesOf b at) (b .strays) (length (clean read)) (text-counted b e)
 
   text-differs : 0 < n → (b : Body) → b ≡ bodyOf (at + n) sp rest → differsOf b ≡ textDiffersIn (clean read) (take (widths read) (drop at s))
   unfolding bodyOf
@@ -188,7 +188,7 @@ module _ (s : List ℕ) (at : ℕ) (there : getD s at 0 ≡ 96) (b : Body) (is :
       let w : widths rawRead ≡ suc (widths (take (rawSpan .len) (chars (drop (at + 1) s)))) = omega (arith, raw-opened .bytes (rawSpan .len)) in
       span-said s at 1 raw-opened rawSpan b is STRING error true WithoutCr Raw (clean rawRead) rawValue (bytesOf b at) inside (differsOf b) (differsOf b) refl
       (ap (valueOf Raw) raw-rest) (text-exact s at 1 raw-opened rawSpan b is)
-      (exact (differsOf b) inside (b .strays) (length rawValue) n (no-strays (not (eqb (b .crs) 0)) (b .strays))) (text-differs s at 1 raw-opened rawSpan (omega arith) b is)
+      (exact-with-strays (not (eqb (b .crs) 0)) inside (b .strays) (length rawValue) n) (text-differs s at 1 raw-opened rawSpan (omega arith) b is)
       (d ∙ ap (λ l. not (same rawValue l)) (sym (inside-token (eqb error 6) s at (widths rawRead) _ w (read-fits s at 1 raw-opened rawSpan))))
       ∙ ap (placed s at) (sym (raw-lexeme ∙ ap (λ k. lexemeAs (1 + rawSpan .len) STRING k 0 true (clean rawRead) rawValue) e))
 

@@ -36,7 +36,7 @@ use Rattle.lexer.specs.Lex.{lexIllegal, lexOperator}
 use Rattle.lexer.specs.Made.{madeAt, shownAt}
 use Rattle.lexer.specs.Placed.{textDiffersIn, placed, said}
 use Rattle.lexer.proofs.Known.{word-no-string, operator-no-string}
-use Rattle.lexer.proofs.Said.{right-said, exact, text-same, text-some}
+use Rattle.lexer.proofs.Said.{right-said, exact-length, text-same, text-some}
 use Rattle.lexer.proofs.Ascii.{Ascii, ascii-none, ascii-facts}
 
 -- ---- tokens of n ASCII characters
@@ -240,7 +240,7 @@ module _ (s : List ℕ) (at : ℕ) (h : at < length s) where
           end = rw e (omega arith);
           lfs = rw (e, code-there s at 10 h (lit< tt), no-lf);
           strays = rw e (sym (add-zero _));
-          textLength = exact (isStray f) (at + f .width - at) (cond (isStray f) 1 0) _ (rw (e, append-nil, stray-there s at h) (omega arith)) (λ t. rw t);
+          textLength = exact-length (isStray f) (at + f .width - at) (cond (isStray f) 1 0) _ (rw (e, append-nil, stray-there s at h) (omega arith)) (λ t. rw t);
           valueLength = refl;
           textDiffers = rw (e, add-zero) (sym differs);
           valueDiffers = refl;
