@@ -143,7 +143,7 @@ module _ (s : List ℕ) (at : ℕ) where
       let low : (i : ℕ) → i < length (encoded cs) → getD cs i ended .code < 0x80 = rw (f .size) (λ i l. rw (getD-take (x .len) r i ended l) (number-ascii r i l .0)) in
       right-said s at (numeralAt (numberAt at x)) (lexNumber r)
       (record {
-        lexeme = rw read;
+        lexeme = rw (read, ← f .shown);
         end = rw (f .width);
         lfs = sym (f .lfs);
         strays = sym (f .strays);

@@ -114,7 +114,6 @@ module _ (quote : ℕ) (some : 0 < quote) (low : quote < 0x80) (no-lf : quote �
       let r = chars (drop at s) in
       let y = lexemeAs (suc (inner .len)) kind error code true (encoded read) value in
       let one = add-one (inner .len) in
-      let w = ap (λ l. valueOf how (drop 1 l)) first ∙ v in
       rw e
       (right-said s at _ y
       (record {
@@ -125,7 +124,7 @@ module _ (quote : ℕ) (some : 0 < quote) (low : quote < 0x80) (no-lf : quote �
               kind = kind;
               inserted = false;
               text = encoded (take (one i) r);
-              value = w i;
+              value = v i;
               code = code;
               error = error;
               mark = true;

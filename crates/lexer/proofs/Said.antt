@@ -1,5 +1,5 @@
 -- An answer says what a lexeme is at its place: field by field.
-use Prim.Native.Nat.{ℕ, zero, suc, _+_, _*_, _<_}
+use Prim.Native.Nat.{ℕ, zero, suc, _+_, _*_, _<_, _-_}
 use mathlib.Core.Path.{_≡_, refl, sym}
 use mathlib.Core.Bool.{Bool, true, false, not, _||_, true≢false}
 use mathlib.Core.List.{List, [], _∷_}
@@ -18,24 +18,24 @@ use Rattle.lexer.specs.Lexeme.{Lexeme, insertedSemicolon}
 use Rattle.lexer.specs.Made.{insertedAt}
 use Rattle.lexer.specs.Placed.{textOf, valueOf, textDiffersIn, valueRead, placed, lengthOf, said}
 
--- the lexeme that an answer tells, of the characters from its place on
-abbrev pub told : List Char → Lexed → Lexeme
-told r x =
+-- the lexeme that an answer tells, at its place of a source
+abbrev pub told : List ℕ → ℕ → Lexed → Lexeme
+told s at x =
     record {
       skipped = 0;
       len = x .chars;
       kind = x .kind;
       inserted = x .inserted;
-      text = textOf (x .text) (take (x .chars) r);
-      value = valueOf (x .value) (drop 1 r);
+      text = textOf (x .text) (take (x .chars) (chars (drop at s))) (take (x .end - at) (drop at s));
+      value = valueOf (x .value) (chars (drop (at + 1) s));
       code = x .code;
       error = x .error;
       mark = x .mark;
     }
 
 -- an answer is right if each field is, for the lexeme's characters cs and their bytes
-pub record Right (at : ℕ) (x : Lexed) (y : Lexeme) (r cs : List Char) (bytes : List ℕ) : Type 0 where
-  pub lexeme : told r x ≡ y
+pub record Right (s : List ℕ) (at : ℕ) (x : Lexed) (y : Lexeme) (cs : List Char) (bytes : List ℕ) : Type 0 where
+  pub lexeme : told s at x ≡ y
   pub end : x .end ≡ at + widths cs
   pub lfs : x .lfs ≡ count isLf cs
   pub strays : x .strays ≡ count isStray cs
@@ -45,7 +45,7 @@ pub record Right (at : ℕ) (x : Lexed) (y : Lexeme) (r cs : List Char) (bytes :
   pub valueDiffers : x .«value_differs» ≡ not (same (y .value) (valueRead y bytes))
 
 pub right-said : (s : List ℕ) (at : ℕ) (x : Lexed) (y : Lexeme)
-    → Right at x y (chars (drop at s)) (take (y .len) (chars (drop at s))) (take (widths (take (y .len) (chars (drop at s)))) (drop at s))
+    → Right s at x y (take (y .len) (chars (drop at s))) (take (widths (take (y .len) (chars (drop at s)))) (drop at s))
     → said s at x ≡ placed s at y
 unfolding said placed
 right-said s at x y h =

@@ -14,7 +14,7 @@ use Rattle.utf8.proofs.Places.{place-fits}
 use Rattle.token.specs.Kinds.{STRING, COMMENT}
 use Rattle.bodies.specs.declared.body.Body.{Body}
 use Rattle.bodies.specs.Span.{Span, toStop, toStarSlash}
-use Rattle.bodies.specs.Body.{isCr, count, bodyOf, clean}
+use Rattle.bodies.specs.Body.{isCr, count, rawInside, bodyOf, clean}
 use Rattle.bodies.proofs.Spans.{stop-spanned, slash-spanned}
 use Rattle.bodies.proofs.Counts.{count-fits, stop-inside}
 use Rattle.bodies.specs.Line.{endsLine}
@@ -25,7 +25,7 @@ use Rattle.lexer.specs.declared.lexed.Value.{Value}
 use Rattle.lexer.specs.declared.lexed.Value.the-variants.{Empty as NoValue, Raw}
 use Rattle.lexer.specs.declared.lexed.Lexed.{Lexed}
 use Rattle.lexer.specs.Lexeme.{insertedSemicolon}
-use Rattle.lexer.specs.Quotes.{rawInside, rawOf, lexRaw}
+use Rattle.lexer.specs.Quotes.{rawOf, lexRaw}
 use Rattle.lexer.specs.Comments.{lineComment, generalComment, comment, lexComment}
 use Rattle.lexer.specs.Made.{insertedAt}
 use Rattle.lexer.specs.Placed.{textOf, valueOf, textDiffersIn, lengthOf, said, placed}
@@ -105,7 +105,7 @@ module _ (s : List ℕ) (at n : ℕ) (o : Opened s at n) (sp : Span) where
       (sym (text-some (clean read) (take (widths read) (drop at s)) (omega (arith, text-length, crs-fit)) ∙ clean-differs s (n + sp .len) at (omega (arith, o .within))))
 
   span-said : (b : Body) → b ≡ bodyOf (at + n) sp rest → (kind error : ℕ) (mark : Bool) (how : Text) (way : Value) (text value : List ℕ) (bytes inside : ℕ) (differs other : Bool)
-      → textOf how read ≡ text → valueOf way (drop 1 (chars (drop at s))) ≡ value
+      → ((all : List ℕ) → textOf how read all ≡ text) → valueOf way (chars (drop (at + 1) s)) ≡ value
       → lengthOf bytes (b .strays) differs ≡ length text → lengthOf inside (b .strays) other ≡ length value
       → differs ≡ textDiffersIn text (take (widths read) (drop at s))
       → other ≡ not (same value (cond (eqb kind STRING) (take (length (take (widths read) (drop at s)) - cond (eqb error 6) 1 2) (drop 1 (take (widths read) (drop at s)))) []))
@@ -114,7 +114,7 @@ module _ (s : List ℕ) (at n : ℕ) (o : Opened s at n) (sp : Span) where
   span-said b e kind error mark how way text value bytes inside differs other t v f g h k =
       let r = chars (drop at s) in
       let m : sp .len + n ≡ n + sp .len = omega arith in
-      let u = ap (λ l. textOf how (take l r)) m ∙ t in
+      let u : (all : List ℕ) → textOf how (take (sp .len + n) r) all ≡ text = λ all. ap (λ l. textOf how (take l r) all) m ∙ t all in
       rw e
       (right-said s at _ (lexemeAs (n + sp .len) kind error 0 mark text value)
       (record {
@@ -124,7 +124,7 @@ module _ (s : List ℕ) (at n : ℕ) (o : Opened s at n) (sp : Span) where
               len = m i;
               kind = kind;
               inserted = false;
-              text = u i;
+              text = u (take (bodyOf (at + n) sp rest .end - at) (drop at s)) i;
               value = v i;
               code = 0;
               error = error;
@@ -186,8 +186,8 @@ module _ (s : List ℕ) (at : ℕ) (there : getD s at 0 ≡ 96) (b : Body) (is :
       → said s at (bodyAs b 1 STRING error true WithoutCr Raw (bytesOf b at) inside (differsOf b) (differsOf b)) ≡ placed s at (lexRaw (chars (drop at s)))
   raw-said error e inside n d =
       let w : widths rawRead ≡ suc (widths (take (rawSpan .len) (chars (drop (at + 1) s)))) = omega (arith, raw-opened .bytes (rawSpan .len)) in
-      span-said s at 1 raw-opened rawSpan b is STRING error true WithoutCr Raw (clean rawRead) rawValue (bytesOf b at) inside (differsOf b) (differsOf b) refl
-      (ap (valueOf Raw) raw-rest) (text-exact s at 1 raw-opened rawSpan b is)
+      span-said s at 1 raw-opened rawSpan b is STRING error true WithoutCr Raw (clean rawRead) rawValue (bytesOf b at) inside (differsOf b) (differsOf b) (λ _. refl)
+      refl (text-exact s at 1 raw-opened rawSpan b is)
       (exact-with-strays (not (eqb (b .crs) 0)) inside (b .strays) (length rawValue) n) (text-differs s at 1 raw-opened rawSpan (omega arith) b is)
       (d ∙ ap (λ l. not (same rawValue l)) (sym (inside-token (eqb error 6) s at (widths rawRead) _ w (read-fits s at 1 raw-opened rawSpan))))
       ∙ ap (placed s at) (sym (raw-lexeme ∙ ap (λ k. lexemeAs (1 + rawSpan .len) STRING k 0 true (clean rawRead) rawValue) e))
@@ -237,7 +237,7 @@ module _ (s : List ℕ) (at : ℕ) (first : getD s at 0 ≡ 47) (mark : Bool) (b
   unfolding same
   comment-said x l h second sp is error =
       let o = opened-comment s at x l h first second in
-      span-said s at 2 o sp b is COMMENT error mark WithoutCr NoValue _ [] (bytesOf b at) 0 (differsOf b) false refl refl
+      span-said s at 2 o sp b is COMMENT error mark WithoutCr NoValue _ [] (bytesOf b at) 0 (differsOf b) false (λ _. refl) refl
       (text-exact s at 2 o sp b is) refl (text-differs s at 2 o sp (omega arith) b is) refl
 
   module _ (second : getD s (at + 1) 0 ≡ 47) (is : b ≡ bodyOf (at + 2) (toStop 10 (chars (drop (at + 2) s))) (chars (drop (at + 2) s))) where
@@ -278,7 +278,7 @@ module _ (s : List ℕ) (at : ℕ) (first : getD s at 0 ≡ 47) (mark : Bool) (b
         let bytes = take (widths lineRead) (drop at s) in
         let fed : List ℕ = clean lineRead ++ (10 ∷ []) in
         let n = length-append (clean lineRead) (10 ∷ []) in
-        span-said s at 2 o lineSpan b is COMMENT 0 mark WithLf NoValue fed [] (bytesOf b at + 1) 0 true false refl refl
+        span-said s at 2 o lineSpan b is COMMENT 0 mark WithLf NoValue fed [] (bytesOf b at + 1) 0 true false (λ _. refl) refl
         (omega (arith, n, text-counted s at 2 o lineSpan b is)) refl
         (sym (text-some fed bytes (omega (arith, n)) ∙ ap not (clean-fed s (2 + lineSpan .len) at (omega (arith, o .within))))) refl
         ∙ ap (placed s at) (sym (line-lexeme ∙ rw c))

@@ -11,22 +11,21 @@ use Rattle.token.specs.Kinds.{STRING}
 use Rattle.numbers.specs.Spelling.{numberText}
 use Rattle.quotes.specs.Body.{body}
 use Rattle.bodies.specs.Span.{Span, toStop}
-use Rattle.bodies.specs.Body.{isLf, count, clean}
+use Rattle.bodies.specs.Body.{rawInside, isLf, count, clean}
 use Rattle.lexer.specs.declared.lexed.Text.{Text}
 use Rattle.lexer.specs.declared.lexed.Text.the-variants.{Empty, AsRead, Number, WithoutCr, WithLf}
 use Rattle.lexer.specs.declared.lexed.Value.{Value}
 use Rattle.lexer.specs.declared.lexed.Value.the-variants.{Empty as NoValue, Interpreted, Raw}
 use Rattle.lexer.specs.declared.lexed.Lexed.{Lexed}
 use Rattle.lexer.specs.Lexeme.{Lexeme}
-use Rattle.lexer.specs.Quotes.{rawInside}
 
--- the text for each way of making it, from the characters read
-abbrev pub textOf : Text → List Char → List ℕ
-textOf Empty cs = []
-textOf AsRead cs = encoded cs
-textOf (Number spelling) cs = numberText spelling (encoded cs)
-textOf WithoutCr cs = clean cs
-textOf WithLf cs = clean cs ++ (10 ∷ [])
+-- the text for each way of making it, from the characters read, and for a number from their bytes
+abbrev pub textOf : Text → List Char → List ℕ → List ℕ
+textOf Empty cs bytes = []
+textOf AsRead cs bytes = encoded cs
+textOf (Number spelling) cs bytes = numberText spelling bytes
+textOf WithoutCr cs bytes = clean cs
+textOf WithLf cs bytes = clean cs ++ (10 ∷ [])
 
 -- the value for each way of making it, from the characters after the opening quote
 abbrev pub valueOf : Value → List Char → List ℕ
@@ -85,7 +84,6 @@ lengthOf bytes strays differs = bytes + cond differs (2 * strays) 0
 -- what the code's answer says
 unfoldable pub said : List ℕ → ℕ → Lexed → Placed
 said s at x =
-    let r = chars (drop at s) in
     record {
       lexeme =
           record {
@@ -93,8 +91,8 @@ said s at x =
             len = x .chars;
             kind = x .kind;
             inserted = x .inserted;
-            text = textOf (x .text) (take (x .chars) r);
-            value = valueOf (x .value) (drop 1 r);
+            text = textOf (x .text) (take (x .chars) (chars (drop at s))) (take (x .end - at) (drop at s));
+            value = valueOf (x .value) (chars (drop (at + 1) s));
             code = x .code;
             error = x .error;
             mark = x .mark;

@@ -1,5 +1,5 @@
 -- Character literals, strings and raw strings, from the opening quote on.
-use Prim.Native.Nat.{ℕ, suc, _-_}
+use Prim.Native.Nat.{suc}
 use mathlib.Core.Bool.{Bool, true, false, cond}
 use mathlib.Core.List.{List, []}
 use lib.Dec.{eqb}
@@ -10,7 +10,7 @@ use Rattle.token.specs.Kinds.{CHAR, STRING}
 use Rattle.quotes.specs.Body.{Body, body}
 use Rattle.quotes.specs.Literal.{stringKind, charKind, charError}
 use Rattle.bodies.specs.Span.{Span, toStop}
-use Rattle.bodies.specs.Body.{clean}
+use Rattle.bodies.specs.Body.{rawInside, clean}
 use Rattle.lexer.specs.Lexeme.{Lexeme}
 
 -- a string that is not closed has no value
@@ -47,10 +47,6 @@ charOf r b =
 
 unfoldable pub lexChar : List Char → Lexeme
 lexChar r = charOf r (body 39 (drop 1 r))
-
--- how many characters of a raw string's span belong to its value
-abbrev pub rawInside : Span → ℕ
-rawInside s = cond (s .closed) (s .len - 1) (s .len)
 
 -- "Raw strings drop CR from text and value; an unclosed one is still a STRING." Its error is 6
 abbrev pub rawOf : List Char → Span → Lexeme
