@@ -1,31 +1,29 @@
 -- Worked examples: what the first scan of a text reads, by computation.
-use Prim.Native.Nat.{ℕ}
 use Prim.Native.String.{String}
 use mathlib.Core.Path.{_≡_, refl}
 use mathlib.Core.Bool.{Bool, true, false}
-use mathlib.Core.List.{List, [], _∷_}
 use Rattle.basics.specs.Same.{same}
 use Rattle.basics.specs.Spelling.{spelled}
 use Rattle.utf8.specs.Chars.{charsFrom, chars, firstChar, octets, encode}
-use Rattle.token.specs.Kinds.{ILLEGAL, EOF, COMMENT, IDENT, INT, STRING, SEMICOLON, FOR, DEFINE}
+use Rattle.token.specs.Kinds.{ILLEGAL, EOF, COMMENT, IDENT, INT, FOR, DEFINE}
 use Rattle.token.specs.Table.{keywords, operators, kindNamed}
 use Rattle.digits.specs.Digit.{digitVal}
 use Rattle.words.specs.Word.{isLetter, isWord, wordLen}
 use Rattle.blanks.specs.Blank.{isSpace, isBlank, skip}
 use Rattle.operators.specs.Longest.{begins, longest}
 use Rattle.numbers.specs.Run.{digitRun, strictRun}
-use Rattle.numbers.specs.Number.{exponent, finish, fraction, decimalRest, decimal, prefixed, bareZero, leadingZero, withoutI, number}
+use Rattle.numbers.specs.Number.{decimal, prefixed, bareZero, leadingZero, withoutI, number}
 use Rattle.numbers.specs.Spelling.{numberText}
 use Rattle.quotes.specs.Numeral.{numeral}
-use Rattle.quotes.specs.Escape.{letter, byteOf, codeOf, octalEscape, following, hexEscape, escapeOf}
+use Rattle.quotes.specs.Escape.{letter, byteOf, octalEscape, escapeOf}
 use Rattle.quotes.specs.Body.{bodyFrom}
-use Rattle.bodies.specs.Span.{toStop, toStarSlash}
+use Rattle.bodies.specs.Span.{toStarSlash}
 use Rattle.bodies.specs.Body.{clean}
 use Rattle.bodies.specs.Line.{blankToEnd, endsLine}
 use Rattle.bodies.specs.Line as Line
 use Rattle.lexer.specs.Lexeme.{Lexeme, shown, bare, insertedSemicolon, raise}
 use Rattle.lexer.specs.Words.{wordOf, lexNumber}
-use Rattle.lexer.specs.Quotes.{lexString, lexChar, lexRaw}
+use Rattle.lexer.specs.Quotes.{lexString, lexChar}
 use Rattle.lexer.specs.Comments.{comment, lexComment}
 use Rattle.lexer.specs.Lex.{lexOperator, lexDot, lexSlash, lexBy, lexToken, lex}
 
