@@ -104,20 +104,40 @@ fn length_in(head: &[u8]) -> usize {
     low + high * 65536
 }
 
-// Tells of one text after the other, until the input ends or a text is too long.
+// Reads n bytes of a text; false where there are not so many, or no room for them.
+fn read_text(text: &mut [u8], n: usize) -> bool {
+    if text.len() < n {
+        return false;
+    }
+    io::read_full(STDIN_FILENO, &mut text[..n]) == n
+}
+
+// Tells of the first n bytes.
+fn tell_first(text: &[u8], n: usize) {
+    if text.len() < n {
+        return;
+    }
+    tell_all(&text[..n]);
+}
+
+// Reads a text and tells of it; false where the input ends or the text is too long.
+fn tell_next(text: &mut [u8], head: &mut [u8]) -> bool {
+    if io::read_full(STDIN_FILENO, head) != 8 {
+        return false;
+    }
+    let n = length_in(head);
+    if !read_text(text, n) {
+        return false;
+    }
+    tell_first(text, n);
+    true
+}
+
 fn tell_texts(text: &mut [u8], head: &mut [u8]) {
     for k in 0..1000000000usize {
-        if io::read_full(STDIN_FILENO, head) != 8 {
+        if !tell_next(text, head) {
             return;
         }
-        let n = length_in(head);
-        if text.len() < n {
-            return;
-        }
-        if io::read_full(STDIN_FILENO, &mut text[..n]) != n {
-            return;
-        }
-        tell_all(&text[..n]);
     }
 }
 
