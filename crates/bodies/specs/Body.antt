@@ -1,5 +1,5 @@
 -- What is read of a body, from the characters left, and the text that it has.
-use Prim.Native.Nat.{ℕ, _+_}
+use Prim.Native.Nat.{ℕ, _+_, _-_}
 use mathlib.Core.Bool.{Bool, false, cond}
 use mathlib.Core.List.{List, [], _∷_, _++_}
 use lib.Dec.{eqb}
@@ -49,6 +49,10 @@ lineBody at r = stopBody 10 at r
 
 abbrev pub blockBody : ℕ → List Char → Body
 blockBody at r = bodyOf at (toStarSlash false r) r
+
+-- how many characters of a raw string's span belong to its value: not the closing backquote
+abbrev pub rawInside : Span → ℕ
+rawInside s = cond (s .closed) (s .len - 1) (s .len)
 
 -- nothing of a body is read yet
 abbrev pub emptyAt : ℕ → Body
