@@ -1,4 +1,5 @@
 -- `writing::value::raw_inside` meets its contract.
+use native.Mathlib.Omega.{arith}
 use Rattle.writing.proofs.Raw.{raw-some, raw-closed, raw-open}
 use Rattle.writing.proofs.value.raw_inside.Statement.{statement}
 use Rattle.writing.proofs.value.raw_inside.Tie as tie
@@ -9,7 +10,7 @@ raw-body-requires c κs = tt
 sub-result : tie.Need-sub-result
 sub-result c =
     let b = c .before .before .raw-body in
-    raw-some _ _ (b .result) (b .ensures) (c .before .if1 .taken)
+    omega (arith, raw-some _ _ (b .result) (b .ensures) (c .before .if1 .taken))
 
 returns : tie.Need-returns
 returns c =
