@@ -1,7 +1,8 @@
--- Writing the starts: which characters give one, one step at a place of a text, and a table that is full.
+-- Writing and counting the starts: which characters give one, one step at a place of a text, and a table that is full.
 use Prim.Native.Nat.{ℕ, zero, suc, _+_, _-_, _≤_, _<_, min}
-use mathlib.Core.Path.{_≡_, refl, sym}
+use mathlib.Core.Path.{_≡_, refl, sym, ap, _∙_}
 use mathlib.Core.List.{List, [], _∷_}
+use native.Mathlib.Nat.{add-zero}
 use native.Mathlib.Numerals.{add-one}
 use native.Mathlib.Omega.{arith}
 use native.Mathlib.Decide.{decLe}
@@ -23,6 +24,13 @@ sets-past l i (v ∷ vs) h = rw (set-out l i v h) (sets-past l (suc i) vs (omega
 
 pub sets-step : (l : List ℕ) (i : ℕ) {v : ℕ} {vs ws : List ℕ} → vs ≡ v ∷ ws → sets l i vs ≡ sets (set l i v) (i + 1) ws
 sets-step l i e = rw (e, add-one)
+
+-- ---- n of the starts were counted, and others are left: none, or one and those after it
+pub counted-all : {whole : ℕ} (n : ℕ) {vs : List ℕ} → vs ≡ [] → whole ≡ n + length vs → n ≡ whole
+counted-all n e h = sym (h ∙ ap (λ l. n + length l) e ∙ add-zero n)
+
+pub counted-one : {whole : ℕ} (n : ℕ) {v : ℕ} {vs ws : List ℕ} → vs ≡ v ∷ ws → whole ≡ n + length vs → whole ≡ n + 1 + length ws
+counted-one n {ws = ws} e h = let s : n + suc (length ws) ≡ n + 1 + length ws = omega arith in h ∙ ap (λ l. n + length l) e ∙ s
 
 -- ---- a start is below the size, so there are none where no character but the last is left
 pub starts-past : (size o : ℕ) (cs : List Char) → size ≤ suc o → startsRead size o cs ≡ []

@@ -1,4 +1,7 @@
 // The line starts of characters that are read.
+mod count;
+
+pub use count::count_starts;
 ghost use mathlib.Core.Path.{_≡_};
 ghost use Prim.Native.Nat.{min};
 ghost use lib.ListN.{take, drop};

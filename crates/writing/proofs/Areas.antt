@@ -1,7 +1,7 @@
 -- Laws of writing to an area.
 use Prim.Native.Nat.{ℕ, suc, _+_, _≤_, _<_}
 use mathlib.Core.Path.{_≡_, refl, sym, ap, _∙_}
-use mathlib.Core.List.{List, [], _∷_, _++_}
+use mathlib.Core.List.{List, [], _∷_, _++_, append-nil}
 use native.Mathlib.Omega.{arith}
 use native.Mathlib.Numerals.{add-one}
 use lib.ListN.{length, getD, drop, set, drop-of-length-le}
@@ -24,8 +24,14 @@ one-byte area to b rest = rw add-one
 pub writes-as : (area : List ℕ) (to : ℕ) {x y : List ℕ} (after : List ℕ) (next : ℕ) → x ≡ y → Writes area to y after next → Writes area to x after next
 writes-as area to after next e w rest = ap (λ z. sets area to (z ++ rest)) e ∙ w rest
 
-pub sets-as : (area : List ℕ) (to : ℕ) {x y after : List ℕ} → x ≡ y → after ≡ sets area to x → after ≡ sets area to y
-sets-as area to e w = w ∙ ap (sets area to) e
+-- nothing more is written after them
+pub writes-end : (area : List ℕ) (to : ℕ) {x y : List ℕ} (after : List ℕ) (next : ℕ) → x ≡ y → Writes area to x after next → after ≡ sets area to y
+writes-end area to {x} after next e w = sym (w []) ∙ ap (sets area to) (append-nil x ∙ e)
+
+-- one byte more is written after them
+pub writes-last : (area : List ℕ) (to : ℕ) {x y : List ℕ} (mid : List ℕ) (n b : ℕ) (after : List ℕ) (next : ℕ) → x ≡ y → Writes area to x mid n
+    → Writes mid n (b ∷ []) after next → after ≡ sets area to (y ++ (b ∷ []))
+writes-last area to mid n b after next e v w = sym (ap (λ z. sets area to (z ++ (b ∷ []))) (sym e) ∙ v (b ∷ []) ∙ w [])
 
 -- ---- a loop that has `left` to write from the present place on, which makes the area `whole`
 module _ (area : List ℕ) (n : ℕ) {whole left : List ℕ} (to-do : whole ≡ sets area n left) where
@@ -36,6 +42,11 @@ module _ (area : List ℕ) (n : ℕ) {whole left : List ℕ} (to-do : whole ≡ 
   -- at the end nothing is left
   pub finished : left ≡ [] → area ≡ whole
   finished e = sym (left-as e)
+
+-- the same, where a rest is to be written behind, whatever it is
+pub left-as-with-rest : (area : List ℕ) (n : ℕ) {whole : List ℕ → List ℕ} {left bytes : List ℕ} → left ≡ bytes → ((rest : List ℕ) → whole rest ≡ sets area n (left ++ rest))
+    → (rest : List ℕ) → whole rest ≡ sets area n (bytes ++ rest)
+left-as-with-rest area n e to-do rest = to-do rest ∙ ap (λ z. sets area n (z ++ rest)) e
 
 -- of a list, what is left from a place on: its next byte, or nothing
 pub next-byte : (area : List ℕ) (to : ℕ) (bytes : List ℕ) (k : ℕ) (after : List ℕ) (next : ℕ) → k < length bytes → Writes area to (getD bytes k 0 ∷ []) after next

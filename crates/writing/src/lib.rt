@@ -6,5 +6,7 @@ mod value;
 
 pub use chars::write_clean;
 pub use chars::write_encoded;
+pub use chars::write_line;
 pub use number::write_number;
 pub use value::write_interpreted;
+pub use value::write_raw;

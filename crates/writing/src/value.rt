@@ -1,13 +1,16 @@
 // The value of a string.
+use crate::chars::write_clean;
 use crate::put::put;
 use crate::put::put_code;
 use quotes::Given;
 ghost use Prim.Native.Nat.{_≤_};
 ghost use mathlib.Core.Path.{_≡_};
 ghost use mathlib.Core.Bool.{true};
-ghost use lib.ListN.{drop};
+ghost use lib.ListN.{take, drop};
 ghost use lib.Seq.{sets};
 ghost use Rattle.utf8.specs.Chars.{chars};
+ghost use Rattle.bodies.specs.Span.{toStop};
+ghost use Rattle.bodies.specs.Body.{clean, rawInside};
 ghost use Rattle.quotes.specs.declared.Given.the-variants.{Value};
 ghost use Rattle.quotes.specs.Escape.{bytesOf};
 ghost use Rattle.quotes.specs.Body.{body};
@@ -53,4 +56,23 @@ pub fn write_interpreted(src: &[u8], at: usize, area: &mut [u8], to: usize)
             p += c.width;
         }
     }
+}
+
+// How many characters of the raw string whose body stands at a place belong to its value.
+fn raw_inside(src: &[u8], at: usize) -> usize
+    ensures { λ r. ⌜ r ≡ rawInside (toStop 96 (chars (drop at (now (src .entry))))) ⌝ }
+{
+    let body = bodies::raw_body(src, at);
+    if body.closed {
+        body.chars - 1
+    } else {
+        body.chars
+    }
+}
+
+// The value of the raw string whose body stands at a place.
+pub fn write_raw(src: &[u8], at: usize, area: &mut [u8], to: usize)
+    ensures { λ r. ⌜ now (area .exit) ≡ sets (now (area .entry)) to (clean (take (rawInside (toStop 96 (chars (drop at (now (src .entry)))))) (chars (drop at (now (src .entry)))))) ⌝ }
+{
+    write_clean(src, at, raw_inside(src, at), area, to);
 }

@@ -1,6 +1,6 @@
 -- `writing::chars::write_encoded` meets its contract.
 use borrow.Author.Needs.{needs}
-use Rattle.writing.proofs.Areas.{sets-as}
+use Rattle.writing.proofs.Areas.{writes-end}
 use Rattle.writing.proofs.Texts.{text-encoded}
 use Rattle.writing.proofs.chars.write_encoded.Statement.{statement}
 use Rattle.writing.proofs.chars.write_encoded.Tie as tie
@@ -14,7 +14,7 @@ same-length c = search needs
 returns : tie.Need-returns
 returns c =
     let a = c .before .before .before .before .before .before .args in
-    sets-as (a .area .now) (a .to) (text-encoded _) (c .before .before .write-chars .ensures)
+    writes-end (a .area .now) (a .to) _ _ (text-encoded _) (c .before .before .write-chars .ensures)
 
 pub write-encoded-spec : {M : Type 1} → statement M
 write-encoded-spec = tie.close (tie.spec write-chars-requires same-length returns)
