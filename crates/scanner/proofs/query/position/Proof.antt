@@ -1,7 +1,9 @@
 -- `query::position` meets its contract: past both tests the state fits, and its file is asked.
-use mathlib.Core.Path.{sym, _∙_}
+use mathlib.Core.Path.{_≡_, sym, _∙_}
+use mathlib.Core.Bool.{true}
 use borrow.Author.Needs.{needs}
 use borrow.Author.Tests.{not-true, not-false}
+use Rattle.scanner.specs.Fits.{fitsAlone}
 use Rattle.scanner.specs.Queries.{positionIn}
 use Rattle.scanner.proofs.query.position.Statement.{statement}
 use Rattle.scanner.proofs.query.position.Tie as tie
@@ -16,13 +18,13 @@ returns c = rw (sym (c .before .fits-alone .ensures) ∙ not-true _ (c .if1 .tak
 fits-table-requires : tie.Need-fits-table-requires
 fits-table-requires c κs = search needs
 
+-- past the first test the state fits alone
+alone : (c : tie.Else1) → fitsAlone (c .before .before .before .args .state) ≡ true
+alone c = sym (c .before .fits-alone .ensures) ∙ not-false _ (c .if1 .left)
+
 returns-2 : tie.Need-returns-2
 unfolding positionIn
-returns-2 c =
-    rw (
-      sym (c .before .before .before .fits-alone .ensures) ∙ not-false _ (c .before .before .if1 .left),
-      sym (c .before .fits-table .ensures) ∙ not-true _ (c .if2 .taken),
-    )
+returns-2 c = rw (alone (c .before .before), sym (c .before .fits-table .ensures) ∙ not-true _ (c .if2 .taken))
 
 file-requires : tie.Need-file-requires
 file-requires c κs = search needs
@@ -35,7 +37,7 @@ unfolding positionIn
 returns-3 c =
     c .position .ensures ∙ rw (
       c .before .file .ensures,
-      sym (c .before .before .before .before .before .fits-alone .ensures) ∙ not-false _ (c .before .before .before .before .if1 .left),
+      alone (c .before .before .before .before),
       sym (c .before .before .before .fits-table .ensures) ∙ not-false _ (c .before .before .if2 .left),
     )
 
