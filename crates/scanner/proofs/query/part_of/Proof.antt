@@ -1,5 +1,7 @@
 -- `query::part_of` meets its contract: each test of the code is one of the definition's.
 use mathlib.Core.Logic.{⊎-elim}
+use native.Mathlib.Omega.{arith}
+use lib.ListN.{length}
 use borrow.Author.Needs.{needs}
 use borrow.Author.Tests.{le-leb, lt-leb}
 use Rattle.basics.proofs.Choice.{and-no}
@@ -13,7 +15,9 @@ part-result-end : tie.Need-part-result-end
 part-result-end c = search needs
 
 returns : tie.Need-returns
-returns c = rw (le-leb _ _ (c .before .before .if1 .taken), le-leb _ _ (c .before .if2 .taken))
+returns c =
+    let a = c .before .before .before .args in
+    rw (le-leb (a .part .start) (a .part .end) (omega arith), le-leb (a .part .end) (length (a .buffer .now)) (omega arith))
 
 slice-aggregate-result : tie.Need-slice-aggregate-result
 slice-aggregate-result c = search needs
