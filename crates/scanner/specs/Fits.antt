@@ -14,11 +14,11 @@ use Rattle.scanner.specs.declared.state.State.{State}
 abbrev pub fileOf : State → File
 fileOf s = record { base = s .base; size = s .size; lines = s .lines }
 
--- "offset above place or size, base + size too large"
+-- "offset above place or size, base + size too large, line count 0"
 abbrev pub fitsAlone : State → Bool
-fitsAlone s = leb (s .offset) (s .place) && leb (s .offset) (s .size) && placed (fileOf s)
+fitsAlone s = leb (s .offset) (s .place) && leb (s .offset) (s .size) && leb 1 (s .lines) && placed (fileOf s)
 
--- "line count 0 or above the table, first start not 0, last start .. above the offset"
+-- "line count .. above the table, first start not 0, last start .. above the offset"
 abbrev pub fitsTable : State → List ℕ → Bool
 fitsTable s table = fitting (fileOf s) table && leb (lineStart table (s .lines)) (s .offset)
 

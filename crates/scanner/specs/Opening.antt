@@ -1,12 +1,11 @@
 -- Opening a text.
 use Prim.Native.Nat.{ℕ}
 use mathlib.Core.Bool.{Bool, false, cond, not, _&&_}
-use mathlib.Core.List.{List, []}
+use mathlib.Core.List.{List}
 use lib.Dec.{ltb, leb}
 use lib.ListN.{length, set}
 use Rattle.utf8.specs.Chars.{chars, wellFormed, bytesBefore}
 use Rattle.refusal.specs.Outcome.{Outcome, refused, gave}
-use Rattle.position.specs.declared.File.{File}
 use Rattle.position.specs.Place.{placed}
 use Rattle.scanner.specs.declared.state.State.{State}
 use Rattle.scanner.specs.declared.opening.Opened.{Opened}

@@ -1,11 +1,11 @@
 -- Questions about a text that is being scanned, and the parts that a token shows.
 use Prim.Native.Nat.{ℕ, _-_}
-use mathlib.Core.Bool.{Bool, cond, _&&_}
+use mathlib.Core.Bool.{cond, _&&_}
 use mathlib.Core.List.{List, []}
 use mathlib.Core.Option.{Option}
 use lib.Dec.{leb}
 use lib.ListN.{length, take, drop}
-use Rattle.refusal.specs.Outcome.{Outcome, refused, gave}
+use Rattle.refusal.specs.Outcome.{Outcome, refused}
 use Rattle.position.specs.declared.Position.{Position}
 use Rattle.position.specs.Queries.{positionOf, lineStartOf}
 use Rattle.errors.specs.declared.layout.Error.{Error}

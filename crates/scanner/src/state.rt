@@ -57,6 +57,9 @@ impl State {
         if self.offset > self.size {
             return false;
         }
+        if self.lines < 1 {
+            return false;
+        }
         self.file().is_placed()
     }
 

@@ -10,15 +10,25 @@ returns c = rw (lt-leb _ _ (c .if1 .taken))
 returns-2 : tie.Need-returns-2
 returns-2 c = rw (le-leb _ _ (c .before .before .if1 .left), lt-leb _ _ (c .if2 .taken))
 
+returns-3 : tie.Need-returns-3
+returns-3 c =
+    rw (le-leb _ _ (c .before .before .before .before .if1 .left), le-leb _ _ (c .before .before .if2 .left), lt-leb _ _ (c .if3 .taken))
+
 file-requires : tie.Need-file-requires
 file-requires c κs = search needs
 
 is-placed-requires : tie.Need-is-placed-requires
 is-placed-requires c κs = search needs
 
-returns-3 : tie.Need-returns-3
-returns-3 c =
-    rw (le-leb _ _ (c .before .before .before .before .if1 .left), le-leb _ _ (c .before .before .if2 .left), c .is-placed .ensures, c .before .file .ensures)
+returns-4 : tie.Need-returns-4
+returns-4 c =
+    rw (
+      le-leb _ _ (c .before .before .before .before .before .before .if1 .left),
+      le-leb _ _ (c .before .before .before .before .if2 .left),
+      le-leb _ _ (c .before .before .if3 .left),
+      c .is-placed .ensures,
+      c .before .file .ensures,
+    )
 
 pub fits-alone-spec : {M : Type 1} → statement M
-fits-alone-spec = tie.close (tie.spec returns returns-2 file-requires is-placed-requires returns-3)
+fits-alone-spec = tie.close (tie.spec returns returns-2 returns-3 file-requires is-placed-requires returns-4)
