@@ -1,5 +1,5 @@
 -- The answers that the code makes, step by step.
-use Prim.Native.Nat.{ℕ, suc, _+_, _-_}
+use Prim.Native.Nat.{ℕ, _+_, _-_}
 use mathlib.Core.Bool.{Bool, true, false, not, _||_}
 use lib.Dec.{eqb}
 use Rattle.token.specs.Kinds.{SEMICOLON}

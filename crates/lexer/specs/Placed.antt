@@ -1,6 +1,6 @@
 -- What is said of a token that was read at a place of a source: the lexeme, and how it stands in the bytes.
 use Prim.Native.Nat.{ℕ, _+_, _*_, _-_}
-use mathlib.Core.Bool.{Bool, true, false, cond, not, _&&_, _||_}
+use mathlib.Core.Bool.{Bool, false, cond, not}
 use mathlib.Core.List.{List, [], _∷_, _++_}
 use lib.Dec.{eqb}
 use lib.ListN.{length, take, drop}
@@ -10,7 +10,7 @@ use Rattle.utf8.specs.Chars.{chars, widths, isStray, encoded}
 use Rattle.token.specs.Kinds.{STRING}
 use Rattle.numbers.specs.Spelling.{numberText}
 use Rattle.quotes.specs.Body.{body}
-use Rattle.bodies.specs.Span.{Span, toStop}
+use Rattle.bodies.specs.Span.{toStop}
 use Rattle.bodies.specs.Body.{rawInside, isLf, count, clean}
 use Rattle.lexer.specs.declared.lexed.Text.{Text}
 use Rattle.lexer.specs.declared.lexed.Text.the-variants.{Empty, AsRead, Number, WithoutCr, WithLf}

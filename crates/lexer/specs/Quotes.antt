@@ -1,6 +1,6 @@
 -- Character literals, strings and raw strings, from the opening quote on.
 use Prim.Native.Nat.{suc}
-use mathlib.Core.Bool.{Bool, true, false, cond}
+use mathlib.Core.Bool.{true, false, cond}
 use mathlib.Core.List.{List, []}
 use lib.Dec.{eqb}
 use lib.ListN.{take, drop}
