@@ -6,10 +6,10 @@ use mathlib.Core.List.{List, [], _∷_, _++_}
 use mathlib.Core.Logic.{_≢_}
 use native.Mathlib.Omega.{arith}
 use native.Mathlib.Nat.{zero-add}
-use lib.ListN.{length, getD, drop}
+use lib.ListN.{length, getD, take, drop}
 use Rattle.basics.proofs.Choice.{cond-ind}
 use Rattle.utf8.specs.declared.Char.{Char}
-use Rattle.utf8.specs.Chars.{ended, chars}
+use Rattle.utf8.specs.Chars.{ended, chars, widths}
 use Rattle.utf8.proofs.Places.{place-chars, ascii-widths}
 use Rattle.utf8.proofs.Ends.{Ends}
 use Rattle.blanks.specs.Blank.{isSpace, isBlank, Skip, nothing, before, skip}
@@ -32,11 +32,16 @@ skip-ascii mark (c ∷ r) i h = go i (isBlank mark (c .code)) refl h (skip-ascii
     go zero true e h ih = blank-low mark (c .code) e
     go (suc i) true e h ih = ih i (omega arith)
 
+-- blanks take a byte each
+pub skip-widths : (mark : Bool) (s : List ℕ) (p : ℕ) → widths (take (skip mark (chars (drop p s)) .len) (chars (drop p s))) ≡ skip mark (chars (drop p s)) .len
+skip-widths mark s p =
+    let r = chars (drop p s) in
+    ascii-widths (skip mark r .len) s p (skip-bound mark r) (skip-ascii mark r)
+
 -- the place after blanks is that many bytes on
 pub skip-place : (mark : Bool) (s : List ℕ) (p : ℕ) → drop (skip mark (chars (drop p s)) .len) (chars (drop p s)) ≡ chars (drop (p + skip mark (chars (drop p s)) .len) s)
 skip-place mark s p =
-    let n = skip mark (chars (drop p s)) .len in
-    sym (rw (ascii-widths n s p (skip-bound mark (chars (drop p s))) (skip-ascii mark (chars (drop p s)))) at (place-chars n s p))
+    sym (rw (skip-widths mark s p) at (place-chars (skip mark (chars (drop p s)) .len) s p))
 
 cons-nil : (c : Char) (r : List Char) → c ∷ r ≢ []
 cons-nil c r e = let z : _≡_ {A = ℕ} 0 1 = cc in omega arith

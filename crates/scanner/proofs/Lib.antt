@@ -1,1 +1,7 @@
 pub mod Opens
+pub mod Areas
+pub mod Recorded
+pub mod Pass
+pub mod Refusals
+pub mod Scans
+pub mod Committed

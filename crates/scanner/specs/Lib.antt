@@ -1,3 +1,5 @@
 pub mod Fits
 pub mod Opening
+pub mod Scan
+pub mod Steps
 pub mod Queries

@@ -1,4 +1,14 @@
-// Tokens, as a scan answers them.
+// What a scan answers: a token by its parts, and the state after it.
+use crate::state::State;
+use lexer::Lexed;
+ghost use mathlib.Core.Path.{_≡_};
+ghost use mathlib.Core.Bool.{cond};
+ghost use Prim.Native.Nat.{_+_, _<_, _^_};
+ghost use lib.Dec.{eqb};
+ghost use Rattle.token.specs.Kinds.{STRING};
+ghost use Rattle.lexer.specs.Placed.{lengthOf};
+ghost use Rattle.scanner.specs.Scan.{partFrom, noToken};
+ghost use Rattle.scanner.specs.Steps.{textLen, valueLen, tokenBy};
 
 // The part of the text area, or of the source, in which a text or a value stands.
 pub struct Part {
@@ -17,4 +27,93 @@ pub struct Token {
     pub text: Part,
     // the value of a STRING
     pub value: Part,
+}
+
+// The refusal, or 0; the state after the scan; the token. A scan that is refused leaves the state as it was, and gives no token.
+pub struct Scanned {
+    pub refusal: u8,
+    pub state: State,
+    pub token: Token,
+}
+
+pub(crate) fn refused(number: u8, state: State) -> Scanned
+    ensures { λ r. ⌜ r ≡ record { refusal = number; state = state; token = noToken } ⌝ }
+{
+    let none = Part {
+        area: false,
+        start: 0,
+        end: 0,
+    };
+    let token = Token {
+        kind: token::NONE,
+        inserted: false,
+        position: 0,
+        code: 0,
+        text: none,
+        value: none,
+    };
+    Scanned {
+        refusal: number,
+        state,
+        token,
+    }
+}
+
+// A part from a place on, by the lexer's count of its bytes.
+fn part_from(area: bool, start: usize, bytes: usize, strays: usize) -> Part
+    requires { ⌜ start + lengthOf bytes strays area < 2 ^ 64 ⌝ }
+    ensures { λ r. ⌜ r ≡ partFrom area start (lengthOf bytes strays area) ⌝ }
+{
+    if area {
+        return Part {
+            area,
+            start,
+            end: start + (bytes + 2 * strays),
+        };
+    }
+    Part {
+        area,
+        start,
+        end: start + bytes,
+    }
+}
+
+// Where the value starts: behind the text in the area, or after the source's opening quote.
+fn value_start(x: Lexed, start: usize, text_end: usize) -> usize
+    requires { ⌜ start + 1 < 2 ^ 64 ⌝ }
+    ensures { λ r. ⌜ r ≡ cond (x .«value_differs») (cond (x .«text_differs») «text_end» 0) (cond (eqb (x .kind) STRING) (start + 1) start) ⌝ }
+{
+    if x.value_differs {
+        if x.text_differs {
+            return text_end;
+        }
+        return 0;
+    }
+    if x.kind == token::STRING {
+        return start + 1;
+    }
+    start
+}
+
+// The token that was read at a place, with its position.
+pub(crate) fn token_of(x: Lexed, start: usize, position: usize) -> Token
+    requires { ⌜ start + 1 + textLen x + valueLen x < 2 ^ 64 ⌝ }
+    ensures { λ r. ⌜ r ≡ tokenBy x start position ⌝ }
+{
+    let text_start = if x.text_differs { 0 } else { start };
+    let text = part_from(x.text_differs, text_start, x.text_bytes, x.strays);
+    let value = part_from(
+        x.value_differs,
+        value_start(x, start, text.end),
+        x.value_bytes,
+        x.strays,
+    );
+    Token {
+        kind: x.kind,
+        inserted: x.inserted,
+        position,
+        code: x.code,
+        text,
+        value,
+    }
 }

@@ -1,0 +1,62 @@
+-- What a token that passes the checks leaves behind: a state that fits its table, and the buffers of the definition.
+use Prim.Native.Nat.{ℕ, _+_, _*_, _-_, _≤_, _<_, _^_}
+use mathlib.Core.Path.{_≡_, _∙_}
+use mathlib.Core.Bool.{true, cond}
+use mathlib.Core.List.{List}
+use native.Mathlib.Omega.{arith}
+use lib.Dec.{eqb}
+use lib.ListN.{take}
+use lib.Seq.{sets, length-sets}
+use Rattle.basics.proofs.Sets.{getD-sets-before}
+use Rattle.position.specs.Place.{fitting}
+use Rattle.position.proofs.Place.{Fit, fit, fit-true}
+use Rattle.errors.specs.Layout.{width, numbers}
+use Rattle.errors.specs.Errors.{roomOf}
+use Rattle.reading.specs.Reading.{errorAt}
+use Rattle.lexer.specs.declared.lexed.Lexed.{Lexed}
+use Rattle.lexer.specs.Placed.{said}
+use Rattle.scanner.specs.declared.state.State.{State}
+use Rattle.scanner.specs.declared.answer.Token.{Token}
+use Rattle.scanner.specs.Fits.{fileOf}
+use Rattle.scanner.specs.Scan.{written, toArea, After}
+use Rattle.scanner.specs.Steps.{stateBy, tokenBy, startsFrom, Ready, commitOf}
+
+module _ (src : List ℕ) (s : State) (start : ℕ) (x : Lexed) (read starts : ℕ) (table list area : List ℕ) where
+  abbrev after : State
+  after = stateBy x (s .offset + read) starts s
+
+  abbrev recorded : List ℕ
+  recorded = sets table (s .lines) (startsFrom src s read)
+
+  module _ (k : Ready src s start x read starts table list area) where
+    abbrev file : Fit (fileOf s) table
+    file = fit (fileOf s) table (k .fitted)
+
+    after-fits : fitting (fileOf after) recorded ≡ true
+    after-fits =
+        fit-true (fileOf after) recorded
+        (record {
+          top = file .top;
+          some = omega (arith, file .some);
+          held = rw (length-sets table (s .lines) (startsFrom src s read)) (k .tableRoom);
+          first = getD-sets-before table (s .lines) (startsFrom src s read) 0 0 (file .some) ∙ file .first;
+        })
+
+    -- the error may be recorded
+    pub error-ready : {a : State} {t : List ℕ} → a ≡ after → t ≡ recorded
+        → (fitting (fileOf a) t ≡ true) × (a .offset ≤ a .size) × (s .errors + cond (eqb (x .error) 0) 0 1 ≤ roomOf list)
+    error-ready e f = rw (e, f) (after-fits, k .sized, k .listRoom)
+
+    pub position-fits : s .base + s .offset + (start - s .place) < 2 ^ 64
+    position-fits = omega (arith, file .top, k .sized, k .blanks)
+
+    pub base-fits : s .base + s .offset < 2 ^ 64
+    base-fits = omega (arith, position-fits)
+
+  pub commit-is : {a : State} {t l b : List ℕ} {token : Token} → a ≡ after → t ≡ recorded
+      → l ≡ cond (eqb (x .error) 0) list (sets list (s .errors * width) (numbers (errorAt (x .error) (a .offset) (take (a .lines) t))))
+      → b ≡ written (toArea (said src start x)) area → token ≡ tokenBy x start (s .base + s .offset + (start - s .place))
+      → _≡_ {A = After} (record { table = t; list = l; area = b; answer = record { refusal = 0; state = a; token = token } })
+      (commitOf src s start x read starts table list area)
+  unfolding commitOf
+  commit-is e f g h d = rw (g, h, d, f, e)

@@ -1,0 +1,106 @@
+-- The steps of the code of a scan, by the lexer's answer.
+use Prim.Native.Nat.{ℕ, _+_, _*_, _-_, _≤_, _<_, _^_}
+use mathlib.Core.Path.{_≡_}
+use mathlib.Core.Bool.{true, cond}
+use mathlib.Core.List.{List}
+use lib.Dec.{eqb, ltb}
+use lib.ListN.{length, take, drop}
+use lib.Seq.{sets}
+use Rattle.utf8.specs.Chars.{chars}
+use Rattle.token.specs.Kinds.{STRING}
+use Rattle.lines.specs.Starts.{startsRead}
+use Rattle.position.specs.Place.{fitting}
+use Rattle.errors.specs.Layout.{width, numbers}
+use Rattle.errors.specs.Errors.{roomOf}
+use Rattle.reading.specs.Reading.{errorAt}
+use Rattle.lexer.specs.declared.lexed.Lexed.{Lexed}
+use Rattle.lexer.specs.Placed.{lengthOf, said}
+use Rattle.scanner.specs.declared.state.State.{State}
+use Rattle.scanner.specs.declared.answer.Token.{Token}
+use Rattle.scanner.specs.Fits.{fileOf}
+use Rattle.scanner.specs.Scan.{partFrom, written, toArea, After}
+
+-- how many bytes text and value have
+abbrev pub textLen : Lexed → ℕ
+textLen x = lengthOf (x .«text_bytes») (x .strays) (x .«text_differs»)
+
+abbrev pub valueLen : Lexed → ℕ
+valueLen x = lengthOf (x .«value_bytes») (x .strays) (x .«value_differs»)
+
+-- how many of them are to be written
+abbrev pub toWrite : Lexed → ℕ
+toWrite x = cond (x .«text_differs») (textLen x) 0 + cond (x .«value_differs») (valueLen x) 0
+
+-- the first refusal of 3, 7, 8, 9, or 0: for the offset reached, the line starts and errors then, and the lengths of the buffers
+abbrev pub refusalBy : Lexed → ℕ → ℕ → State → ℕ → ℕ → ℕ → ℕ
+refusalBy x offset starts s table list area =
+    cond (ltb (s .size) offset) 3
+    (cond (ltb table (s .lines + starts)) 7
+    (cond (ltb list (s .errors + cond (eqb (x .error) 0) 0 1)) 8 (cond (ltb area (toWrite x)) 9 0)))
+
+-- the state after a token that ends at an offset and records so many line starts
+abbrev pub stateBy : Lexed → ℕ → ℕ → State → State
+stateBy x offset starts s =
+    record {
+      base = s .base;
+      size = s .size;
+      place = x .end;
+      offset = offset;
+      mark = x .mark;
+      lines = s .lines + starts;
+      errors = s .errors + cond (eqb (x .error) 0) 0 1;
+    }
+
+-- the token that was read at a place, with its position
+abbrev pub tokenBy : Lexed → ℕ → ℕ → Token
+tokenBy x start position =
+    record {
+      kind = x .kind;
+      inserted = x .inserted;
+      position = position;
+      code = x .code;
+      text = partFrom (x .«text_differs») (cond (x .«text_differs») 0 start) (textLen x);
+      value =
+          partFrom (x .«value_differs»)
+          (cond (x .«value_differs») (cond (x .«text_differs») (textLen x) 0) (cond (eqb (x .kind) STRING) (start + 1) start))
+          (valueLen x);
+    }
+
+-- the line starts that the next characters record, so many of them
+abbrev pub startsFrom : List ℕ → State → ℕ → List ℕ
+startsFrom src s read = startsRead (s .size) (s .offset) (take read (chars (drop (s .place) src)))
+
+-- how a token that was read at a place, and all its characters and line starts, may be committed
+pub record Ready (src : List ℕ) (s : State) (start : ℕ) (x : Lexed) (read starts : ℕ) (table list area : List ℕ) : Type 0 where
+  pub counted : starts ≡ length (startsFrom src s read)
+  pub fitted : fitting (fileOf s) table ≡ true
+  pub sized : s .offset + read ≤ s .size
+  pub tableRoom : s .lines + starts ≤ length table
+  pub listRoom : s .errors + cond (eqb (x .error) 0) 0 1 ≤ roomOf list
+  pub areaRoom : toWrite x ≤ length area
+  -- its bytes stand behind the blanks
+  pub behind : s .place ≤ start
+  pub before : start ≤ x .end
+  pub blanks : start - s .place ≤ read
+  -- its text and value have as many bytes as it says
+  pub areaLength : length (toArea (said src start x)) ≡ toWrite x
+  pub textLength : length (said src start x .lexeme .text) ≡ textLen x
+  pub bytes : start + 1 + textLen x + valueLen x < 2 ^ 64
+
+-- what a token that was not refused leaves in the buffers, and its answer
+unfoldable pub commitOf : List ℕ → State → ℕ → Lexed → ℕ → ℕ → List ℕ → List ℕ → List ℕ → After
+commitOf src s start x read starts table list area =
+    let table′ = sets table (s .lines) (startsFrom src s read) in
+    record {
+      table = table′;
+      list =
+          cond (eqb (x .error) 0) list
+          (sets list (s .errors * width) (numbers (errorAt (x .error) (s .offset + read) (take (s .lines + starts) table′))));
+      area = written (toArea (said src start x)) area;
+      answer =
+          record {
+            refusal = 0;
+            state = stateBy x (s .offset + read) starts s;
+            token = tokenBy x start (s .base + s .offset + (start - s .place));
+          };
+    }

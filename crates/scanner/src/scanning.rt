@@ -1,0 +1,206 @@
+// One scan: a pass that only reads, the checks, and then what is written.
+use crate::answer::Scanned;
+use crate::answer::refused;
+use crate::answer::token_of;
+use crate::state::State;
+use crate::write::write_area;
+use crate::write::write_error;
+use lexer::Lexed;
+ghost use mathlib.Core.Path.{_≡_};
+ghost use Prim.Native.Nat.{_+_, _*_, _≤_, _<_, _^_};
+ghost use mathlib.Core.Bool.{true, cond};
+ghost use lib.Dec.{leb, eqb};
+ghost use lib.ListN.{length, take, drop};
+ghost use lib.Seq.{sets};
+ghost use Rattle.utf8.specs.Chars.{chars};
+ghost use Rattle.bodies.specs.Body.{isLf, count};
+ghost use Rattle.lines.specs.Starts.{startsRead};
+ghost use Rattle.position.specs.Place.{fitting};
+ghost use Rattle.errors.specs.Layout.{width, numbers};
+ghost use Rattle.errors.specs.Errors.{roomOf};
+ghost use Rattle.reading.specs.Reading.{errorAt};
+ghost use Rattle.scanner.specs.Fits.{fileOf};
+ghost use Rattle.scanner.specs.Scan.{scanOf};
+ghost use Rattle.scanner.specs.Steps.{toWrite, refusalBy, stateBy, startsFrom, Ready, commitOf};
+
+// How many line starts the next characters record, so many of them with so many line feeds; at the size a line feed starts no line.
+fn starts_read(src: &[u8], state: State, read: usize, lfs: usize) -> usize
+    requires { ⌜ (read ≤ length (chars (drop (state .place) (now src)))) × (lfs ≡ count isLf (take read (chars (drop (state .place) (now src)))))
+        × (state .offset + read < 2 ^ 64) ⌝ }
+    ensures { λ r. ⌜ r ≡ length (startsRead (state .size) (state .offset) (take read (chars (drop (state .place) (now (src .entry)))))) ⌝ }
+{
+    if state.offset + read < state.size {
+        return lfs;
+    }
+    lines::count_starts(src, state.place, read, state.offset, state.size)
+}
+
+// Does an area of so many bytes hold what is to be written of a token? A stray byte is counted once and written in three bytes.
+fn has_room(x: Lexed, area: usize) -> bool
+    ensures { λ r. ⌜ r ≡ leb (toWrite x) area ⌝ }
+{
+    let mut room = area;
+    if x.text_differs {
+        if x.text_bytes > room {
+            return false;
+        }
+        room -= x.text_bytes;
+        if x.strays > room / 2 {
+            return false;
+        }
+        room -= 2 * x.strays;
+    }
+    if x.value_differs {
+        if x.value_bytes > room {
+            return false;
+        }
+        room -= x.value_bytes;
+        if x.strays > room / 2 {
+            return false;
+        }
+    }
+    true
+}
+
+// The first refusal of 3, 7, 8 and 9 whose condition holds, or 0: for the offset reached, the line starts read and the lengths of the buffers.
+fn refusal_of(
+    x: Lexed,
+    offset: usize,
+    starts: usize,
+    state: State,
+    table: usize,
+    list: usize,
+    area: usize,
+) -> u8
+    requires { ⌜ (state .lines ≤ table) × (state .errors ≤ list) ⌝ }
+    ensures { λ r. ⌜ r ≡ refusalBy x offset starts state table list area ⌝ }
+{
+    if offset > state.size {
+        return refusal::SIZE;
+    }
+    if starts > table - state.lines {
+        return refusal::TABLE_FULL;
+    }
+    if x.error != 0 {
+        if state.errors == list {
+            return refusal::LIST_FULL;
+        }
+    }
+    if !has_room(x, area) {
+        return refusal::AREA_FULL;
+    }
+    0
+}
+
+// The state after a token that ends at an offset and records so many line starts.
+fn state_after(x: Lexed, offset: usize, starts: usize, state: State) -> State
+    requires { ⌜ (state .lines + starts < 2 ^ 64) × (state .errors + 1 < 2 ^ 64) ⌝ }
+    ensures { λ r. ⌜ r ≡ stateBy x offset starts state ⌝ }
+{
+    State {
+        base: state.base,
+        size: state.size,
+        place: x.end,
+        offset,
+        mark: x.mark,
+        lines: state.lines + starts,
+        errors: if x.error == 0 {
+            state.errors
+        } else {
+            state.errors + 1
+        },
+    }
+}
+
+// Records the line starts of the next characters; where there are none, they are not read again.
+fn record_starts(src: &[u8], state: State, read: usize, starts: usize, table: &mut [usize])
+    requires { ⌜ starts ≡ length (startsFrom (now src) state read) ⌝ }
+    ensures { λ r. ⌜ now (table .exit) ≡ sets (now (table .entry)) (state .lines) (startsFrom (now (src .entry)) state read) ⌝ }
+{
+    if starts == 0 {
+        return;
+    }
+    lines::write_starts(
+        src,
+        state.place,
+        read,
+        state.offset,
+        state.size,
+        table,
+        state.lines,
+    );
+}
+
+// Records the error of a token, if it has one, behind the first `count`.
+fn record_error(after: State, table: &[usize], list: &mut [usize], count: usize, number: u8)
+    requires { ⌜ (fitting (fileOf after) (now table) ≡ true) × (after .offset ≤ after .size) × (count + cond (eqb number 0) 0 1 ≤ roomOf (now list)) ⌝ }
+    ensures { λ r. ⌜ now (list .exit) ≡ cond (eqb number 0) (now (list .entry)) (sets (now (list .entry)) (count * width)
+        (numbers (errorAt number (after .offset) (take (after .lines) (now (table .entry)))))) ⌝ }
+{
+    if number == 0 {
+        return;
+    }
+    write_error(after, table, list, count, number);
+}
+
+// Writes what a token that passed the checks leaves in the buffers, and answers it.
+fn commit(
+    src: &[u8],
+    state: State,
+    start: usize,
+    x: Lexed,
+    read: usize,
+    starts: usize,
+    table: &mut [usize],
+    list: &mut [usize],
+    area: &mut [u8],
+) -> Scanned
+    requires { ⌜ Ready (now src) state start x read starts (now table) (now list) (now area) ⌝ }
+    ensures { λ r. ⌜ record { table = now (table .exit); list = now (list .exit); area = now (area .exit); answer = r }
+        ≡ commitOf (now (src .entry)) state start x read starts (now (table .entry)) (now (list .entry)) (now (area .entry)) ⌝ }
+{
+    let after = state_after(x, state.offset + read, starts, state);
+    record_starts(src, state, read, starts, table);
+    record_error(after, table, list, state.errors, x.error);
+    write_area(src, start, x, area);
+    let position = state.base + state.offset + (start - state.place);
+    Scanned {
+        refusal: 0,
+        state: after,
+        token: token_of(x, start, position),
+    }
+}
+
+// Scans one token: a pass that only reads, the checks, and then what is written.
+pub fn scan(
+    src: &[u8],
+    state: State,
+    table: &mut [usize],
+    list: &mut [usize],
+    area: &mut [u8],
+) -> Scanned
+    ensures { λ r. ⌜ record { table = now (table .exit); list = now (list .exit); area = now (area .exit); answer = r }
+        ≡ scanOf (now (src .entry)) state (now (table .entry)) (now (list .entry)) (now (area .entry)) ⌝ }
+{
+    if !state.fits(src, table, list) {
+        return refused(refusal::DOES_NOT_FIT, state);
+    }
+    let blanks = blanks::skip_blanks(src, state.place, state.mark);
+    let start = blanks.end;
+    let x = lexer::lex_token(src, start, state.mark);
+    let read = start - state.place + x.chars;
+    let starts = starts_read(src, state, read, blanks.lfs + x.lfs);
+    let number = refusal_of(
+        x,
+        state.offset + read,
+        starts,
+        state,
+        table.len(),
+        errors::room(list),
+        area.len(),
+    );
+    if number != 0 {
+        return refused(number, state);
+    }
+    commit(src, state, start, x, read, starts, table, list, area)
+}
