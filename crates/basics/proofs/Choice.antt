@@ -1,7 +1,7 @@
 -- Laws of a choice by a test, of two tests at once, and of a number between two others.
 use Prim.Native.Nat.{ℕ, _≤_, _<_}
 use mathlib.Core.Path.{_≡_, refl, subst, sym}
-use mathlib.Core.Bool.{Bool, true, false, cond, _&&_, false≢true}
+use mathlib.Core.Bool.{Bool, true, false, cond, _&&_, Bool·beq, false≢true}
 use mathlib.Core.Logic.{_⊎_, inl, inr}
 use lib.Dec.{T, leb, leb→le}
 use borrow.Author.Tests.{le-leb, lt-leb}
@@ -11,6 +11,13 @@ use Rattle.basics.specs.Between.{between}
 pub cond-ind : {A : Type 0} (P : A → Type 0) (t : Bool) (x y : A) → (t ≡ true → P x) → (t ≡ false → P y) → P (cond t x y)
 cond-ind P true x y f g = f refl
 cond-ind P false x y f g = g refl
+
+-- two tests agree
+pub same-test : (a b : Bool) → T (Bool·beq a b) → a ≡ b
+same-test true true t = refl
+same-test true false t = absurd t
+same-test false true t = absurd t
+same-test false false t = refl
 
 -- a test holds or fails
 pub either : (t : Bool) → (t ≡ true) ⊎ (t ≡ false)

@@ -1,19 +1,16 @@
 -- Laws of blanks: one of them at a place, by the byte there.
 use Prim.Native.Nat.{ℕ, zero, suc, _+_, _≤_, _<_}
-use mathlib.Core.Path.{_≡_, refl, sym, ap, ap₂, _∙_}
-use mathlib.Core.Bool.{Bool, true, false, cond, not, _&&_, _||_, true≢false}
-use mathlib.Core.List.{List, [], _∷_, _++_}
+use mathlib.Core.Path.{_≡_, refl}
+use mathlib.Core.Bool.{Bool, true, false, cond}
+use mathlib.Core.List.{List}
 use native.Mathlib.Omega.{arith}
-use native.Mathlib.Decide.{decLt}
 use native.Mathlib.Nat.{add-zero, zero-add}
-use lib.Dec.{ltb, eqb}
+use lib.Dec.{ltb}
 use lib.ListN.{length, getD, drop}
-use borrow.Author.Tests.{lt-ltb, le-ltb, eq-eqb, ne-eqb}
-use Rattle.basics.proofs.Choice.{cond-ind}
-use Rattle.utf8.specs.declared.Char.{Char}
-use Rattle.utf8.specs.Chars.{ended, chars}
+use borrow.Author.Tests.{lt-ltb, eq-eqb, ne-eqb}
+use Rattle.utf8.specs.Chars.{chars}
 use Rattle.utf8.proofs.First.{chars-at, chars-end, chars-ascii}
-use Rattle.utf8.proofs.Places.{test-there}
+use Rattle.utf8.proofs.Places.{ascii-only, test-there}
 use Rattle.blanks.specs.declared.Skipped.{Skipped}
 use Rattle.blanks.specs.Blank.{isSpace, isBlank, Skip, nothing, before, skip}
 
@@ -21,13 +18,14 @@ use Rattle.blanks.specs.Blank.{isSpace, isBlank, Skip, nothing, before, 
 abbrev pub joined : ℕ → ℕ → ℕ → Skip → Skipped
 joined p k l x = record { end = p + x .len; lfs = k + x .lfs; line = cond (ltb 0 (x .line)) (p + x .line) l }
 
-blank-high : (mark : Bool) (c : ℕ) → 0x80 ≤ c → isBlank mark c ≡ false
-unfolding isBlank isSpace
-blank-high mark c h =
-    rw (ne-eqb c 32 (λ e. omega arith), ne-eqb c 9 (λ e. omega arith), ne-eqb c 13 (λ e. omega arith), ne-eqb c 10 (λ e. omega arith))
+-- no character above 127 is blank
+pub space-high : (c : ℕ) → 0x80 ≤ c → isSpace c ≡ false
+unfolding isSpace
+space-high c h = rw (ne-eqb c 32 (λ e. omega arith), ne-eqb c 9 (λ e. omega arith), ne-eqb c 13 (λ e. omega arith))
 
-pub blank-low : (mark : Bool) (c : ℕ) → isBlank mark c ≡ true → c < 0x80
-blank-low mark c e = elim (decLt c 0x80) [ yes l ↦ l | no l ↦ absurd (true≢false (sym e ∙ blank-high mark c (omega arith))) ]
+pub blank-high : (mark : Bool) (c : ℕ) → 0x80 ≤ c → isBlank mark c ≡ false
+unfolding isBlank
+blank-high mark c h = rw (space-high c h, ne-eqb c 10 (λ e. omega arith))
 
 pub joined-start : (at : ℕ) (x : Skip) → record { end = at + x .len; lfs = x .lfs; line = at + x .line } ≡ joined at 0 at x
 joined-start at x = go (x .line)
@@ -67,7 +65,7 @@ module _ (mark : Bool) (s : List ℕ) (p : ℕ) where
   module _ (h : p < length s) where
     skip-one : isBlank mark (getD s p 0) ≡ true → skip mark (chars (drop p s)) ≡ before (getD s p 0) (skip mark (chars (drop (p + 1) s)))
     unfolding skip
-    skip-one e = rw (chars-ascii s p h (blank-low mark _ e), e)
+    skip-one e = rw (chars-ascii s p h (ascii-only (isBlank mark) (blank-high mark) _ e), e)
 
     skip-none : isBlank mark (getD s p 0) ≡ false → skip mark (chars (drop p s)) ≡ nothing
     unfolding skip

@@ -1,64 +1,43 @@
--- Laws of how many blanks are skipped: bound, place, and more text behind.
-use Prim.Native.Nat.{ℕ, zero, suc, _+_, _≤_, _<_}
-use mathlib.Core.Path.{_≡_, refl, sym, ap, _∙_}
+-- Laws of how many blanks are skipped: they are a run, its bound, and more text behind.
+use Prim.Native.Nat.{ℕ, suc, _+_, _≤_}
+use mathlib.Core.Path.{_≡_, refl, sym, ap}
 use mathlib.Core.Bool.{Bool, true, false, cond}
 use mathlib.Core.List.{List, [], _∷_, _++_}
 use mathlib.Core.Logic.{_≢_}
 use native.Mathlib.Omega.{arith}
 use native.Mathlib.Nat.{zero-add}
-use lib.ListN.{length, getD, take, drop}
+use lib.ListN.{length, take, drop, length-drop}
 use Rattle.basics.proofs.Choice.{cond-ind}
 use Rattle.utf8.specs.declared.Char.{Char}
-use Rattle.utf8.specs.Chars.{ended, chars, widths}
-use Rattle.utf8.proofs.Places.{place-chars, ascii-widths}
+use Rattle.utf8.specs.Chars.{chars, widths}
 use Rattle.utf8.proofs.Ends.{Ends}
+use Rattle.utf8.proofs.Runs.{Run, run-bound, run-widths, run-place, run-local}
 use Rattle.blanks.specs.Blank.{isSpace, isBlank, Skip, nothing, before, skip}
-use Rattle.blanks.proofs.Blanks.{blank-low}
+use Rattle.blanks.proofs.Blanks.{blank-high}
+
+-- blanks are the longest run of characters that are blank
+pub skip-run : (mark : Bool) → Run (isBlank mark) (λ r. skip mark r .len)
+unfolding skip
+skip-run mark = record { none = refl; next = λ c r. cond-ind (λ (x : Skip). x .len ≡ cond (isBlank mark (c .code)) (suc (skip mark r .len)) 0) (isBlank mark (c .code)) _ _ (λ e. rw e) (λ e. rw e) }
 
 pub skip-bound : (mark : Bool) (r : List Char) → skip mark r .len ≤ length r
-unfolding skip
-skip-bound mark [] = omega arith
-skip-bound mark (c ∷ r) =
-    cond-ind (λ (x : Skip). x .len ≤ suc (length r)) (isBlank mark (c .code)) _ _ (λ _. omega (arith, skip-bound mark r)) (λ _. omega arith)
+skip-bound mark r = run-bound (skip-run mark) r
 
-skip-ascii : (mark : Bool) (r : List Char) (i : ℕ) → i < skip mark r .len → getD r i ended .code < 0x80
-unfolding skip
-skip-ascii mark [] i h = absurd (omega arith)
-skip-ascii mark (c ∷ r) i h = go i (isBlank mark (c .code)) refl h (skip-ascii mark r)
-  where
-    go : (i : ℕ) (t : Bool) → isBlank mark (c .code) ≡ t → i < cond t (before (c .code) (skip mark r)) nothing .len
-        → ((k : ℕ) → k < skip mark r .len → getD r k ended .code < 0x80) → getD (c ∷ r) i ended .code < 0x80
-    go i false e h ih = absurd (omega arith)
-    go zero true e h ih = blank-low mark (c .code) e
-    go (suc i) true e h ih = ih i (omega arith)
-
--- blanks take a byte each
+-- blanks take a byte each, and the place after them is that many bytes on
 pub skip-widths : (mark : Bool) (s : List ℕ) (p : ℕ) → widths (take (skip mark (chars (drop p s)) .len) (chars (drop p s))) ≡ skip mark (chars (drop p s)) .len
-skip-widths mark s p =
-    let r = chars (drop p s) in
-    ascii-widths (skip mark r .len) s p (skip-bound mark r) (skip-ascii mark r)
+skip-widths mark = run-widths (skip-run mark) (blank-high mark)
 
--- the place after blanks is that many bytes on
 pub skip-place : (mark : Bool) (s : List ℕ) (p : ℕ) → drop (skip mark (chars (drop p s)) .len) (chars (drop p s)) ≡ chars (drop (p + skip mark (chars (drop p s)) .len) s)
-skip-place mark s p =
-    sym (rw (skip-widths mark s p) at (place-chars (skip mark (chars (drop p s)) .len) s p))
+skip-place mark = run-place (skip-run mark) (blank-high mark)
 
 cons-nil : (c : Char) (r : List Char) → c ∷ r ≢ []
 cons-nil c r e = let z : _≡_ {A = ℕ} 0 1 = cc in omega arith
 
 -- under the mark blanks stop at the last line feed at the latest
 pub mark-stops : (r : List Char) → Ends r → drop (skip true r .len) r ≢ []
-unfolding skip
-mark-stops [] h e = h
-mark-stops (c ∷ []) h e = cons-nil c [] (rw (feed c h) at e)
-  where
-    feed : (c : Char) → c .code ≡ 10 → isBlank true (c .code) ≡ false
-    feed c e = unfold isBlank isSpace in rw e refl
-mark-stops (c ∷ d ∷ r) h e = go (isBlank true (c .code)) (mark-stops (d ∷ r) h) e
-  where
-    go : (b : Bool) → drop (skip true (d ∷ r) .len) (d ∷ r) ≢ [] → drop (cond b (before (c .code) (skip true (d ∷ r))) nothing .len) (c ∷ d ∷ r) ≢ []
-    go true ih = ih
-    go false ih = cons-nil c (d ∷ r)
+mark-stops r h e =
+    let l = run-local (skip-run true) (unfold isBlank isSpace in refl) r [] h .1 in
+    omega (arith, l, length-drop (skip true r .len) r, ap length e)
 
 -- blanks that do not reach the end are the same with more behind
 pub skip-inside : (mark : Bool) (r t : List Char) → drop (skip mark r .len) r ≢ [] → skip mark (r ++ t) ≡ skip mark r

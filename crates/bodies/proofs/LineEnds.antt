@@ -5,7 +5,8 @@ use mathlib.Core.List.{List, [], _∷_, _++_}
 use lib.Dec.{eqb}
 use borrow.Author.Tests.{eqb-false}
 use Rattle.utf8.specs.declared.Char.{Char}
-use Rattle.bodies.specs.Line.{isBlank, blankToEnd, endsLine}
+use Rattle.blanks.specs.Blank.{isSpace}
+use Rattle.bodies.specs.Line.{blankToEnd, endsLine}
 use Rattle.utf8.proofs.Ends.{Ends, ends-tail}
 
 -- a search that leaves at the first line feed
@@ -16,7 +17,7 @@ feed-cond c r false x y e h f = f (ends-tail c r h (eqb-false (c .code) 10 e))
 pub blank-local : (r t : List Char) → Ends r → blankToEnd (r ++ t) ≡ blankToEnd r
 unfolding blankToEnd
 blank-local [] t h = absurd h
-blank-local (c ∷ r) t h = feed-cond c r (eqb (c .code) 10) _ _ refl h (λ k. ap (_&&_ (isBlank (c .code))) (blank-local r t k))
+blank-local (c ∷ r) t h = feed-cond c r (eqb (c .code) 10) _ _ refl h (λ k. ap (_&&_ (isSpace (c .code))) (blank-local r t k))
 
 pub ends-local : (star : Bool) (r t : List Char) → Ends r → endsLine star (r ++ t) ≡ endsLine star r
 unfolding endsLine

@@ -1,7 +1,7 @@
 -- Laws of a comment's line: one step at a place of a text, by the byte there; and what the place of the closing says.
 use Prim.Native.Nat.{ℕ, _+_, _≤_, _<_}
-use mathlib.Core.Path.{_≡_, refl, sym, ap, _∙_}
-use mathlib.Core.Bool.{Bool, true, false, cond, _&&_, true≢false}
+use mathlib.Core.Path.{_≡_, refl, ap, _∙_}
+use mathlib.Core.Bool.{Bool, true, false, cond, _&&_}
 use mathlib.Core.List.{List, [], _∷_}
 use native.Mathlib.Omega.{arith}
 use native.Mathlib.Decide.{decLt}
@@ -11,19 +11,13 @@ use borrow.Author.Tests.{eq-eqb, ne-eqb}
 use Rattle.utf8.specs.declared.Char.{Char}
 use Rattle.utf8.specs.Chars.{firstChar, charAt, chars}
 use Rattle.utf8.proofs.First.{chars-at, chars-end, chars-ascii, there-chars}
-use Rattle.utf8.proofs.Places.{test-there, code-there}
+use Rattle.utf8.proofs.Places.{ascii-only, test-there, code-there}
+use Rattle.blanks.specs.Blank.{isSpace}
+use Rattle.blanks.proofs.Blanks.{space-high}
 use Rattle.bodies.specs.declared.line.Stop.{Stop}
 use Rattle.bodies.specs.declared.line.Stop.the-variants.{Closed, End}
 use Rattle.bodies.proofs.Chars.{code-at}
-use Rattle.bodies.specs.Line.{isBlank, blankToEnd, stopFrom, endsLine}
-
--- no character above 127 is blank
-pub blank-high : (c : ℕ) → 0x80 ≤ c → isBlank c ≡ false
-unfolding isBlank
-blank-high c h = rw (ne-eqb c 32 (λ e. omega arith), ne-eqb c 9 (λ e. omega arith), ne-eqb c 13 (λ e. omega arith))
-
-blank-low : (c : ℕ) → isBlank c ≡ true → c < 0x80
-blank-low c e = elim (decLt c 0x80) [ yes h ↦ h | no h ↦ absurd (true≢false (sym e ∙ blank-high c (omega arith))) ]
+use Rattle.bodies.specs.Line.{blankToEnd, stopFrom, endsLine}
 
 module _ (s : List ℕ) (p : ℕ) where
   pub blank-end : length s ≤ p → blankToEnd (chars (drop p s)) ≡ true
@@ -36,13 +30,13 @@ module _ (s : List ℕ) (p : ℕ) where
     blank-lf e = rw (chars-at s p h, code-there s p 10 h (lit< tt), eq-eqb _ _ e)
 
     module _ (n : getD s p 0 ≡ 10 → ⊥) where
-      pub blank-other : isBlank (getD s p 0) ≡ false → blankToEnd (chars (drop p s)) ≡ false
+      pub blank-other : isSpace (getD s p 0) ≡ false → blankToEnd (chars (drop p s)) ≡ false
       unfolding blankToEnd
-      blank-other e = rw (chars-at s p h, code-there s p 10 h (lit< tt), ne-eqb _ _ n, test-there s p isBlank blank-high h, e)
+      blank-other e = rw (chars-at s p h, code-there s p 10 h (lit< tt), ne-eqb _ _ n, test-there s p isSpace space-high h, e)
 
-      pub blank-next : isBlank (getD s p 0) ≡ true → blankToEnd (chars (drop p s)) ≡ blankToEnd (chars (drop (p + 1) s))
+      pub blank-next : isSpace (getD s p 0) ≡ true → blankToEnd (chars (drop p s)) ≡ blankToEnd (chars (drop (p + 1) s))
       unfolding blankToEnd
-      blank-next e = rw (chars-ascii s p h (blank-low _ e), ne-eqb _ _ n, e)
+      blank-next e = rw (chars-ascii s p h (ascii-only isSpace space-high _ e), ne-eqb _ _ n, e)
 
 -- ---- the search for the comment's end
 module _ (s : List ℕ) (p : ℕ) (star : Bool) where

@@ -1,5 +1,5 @@
 -- Laws of a body's text: its length, and that it is the bytes read just where there is no CR and no stray byte among them.
-use Prim.Native.Nat.{ℕ, zero, suc, _+_, _-_, _*_, _/_, _%_, _≤_, _<_}
+use Prim.Native.Nat.{ℕ, zero, suc, _+_, _*_, _/_, _%_, _≤_, _<_}
 use mathlib.Core.Path.{_≡_, refl, sym, ap, ap₂, _∙_}
 use mathlib.Core.Bool.{Bool, true, false, not, _||_, false≢true}
 use mathlib.Core.List.{List, [], _∷_, _++_, append-assoc}
@@ -20,8 +20,7 @@ use Rattle.utf8.proofs.First.{ascii, ascii-there, chars-at, chars-end, first-fi
 use Rattle.utf8.proofs.Places.{code-there, place-fits}
 use Rattle.utf8.proofs.Append.{first-stray}
 use Rattle.utf8.proofs.Encoding.{first-coded, octets-two, octets-three, octets-four}
-use Rattle.bodies.specs.Span.{Span}
-use Rattle.bodies.specs.Body.{isCr, one, count, bodyOf, written, clean}
+use Rattle.bodies.specs.Body.{isCr, one, count, written, clean}
 
 -- ---- one character, the first of a text
 module _ (t : List ℕ) (z : 0 < length t) where
@@ -201,29 +200,6 @@ pub clean-differs : (s : List ℕ) (k p : ℕ) → p ≤ length s
 clean-differs s k p h =
     let cs = take k (chars (drop p s)) in
     differs-by s k p h (same (clean cs) (take (widths cs) (drop p s))) (eqb (count isCr cs) 0) (eqb (count isStray cs) 0) refl refl refl
-
--- ---- the same of a body: what it was read to hold
-module _ (s : List ℕ) (at : ℕ) (sp : Span) where
-  pub body-length : at + (length (clean (take (sp .len) (chars (drop at s)))) + bodyOf at sp (chars (drop at s)) .crs)
-      ≡ bodyOf at sp (chars (drop at s)) .end + 2 * bodyOf at sp (chars (drop at s)) .strays
-  unfolding bodyOf
-  body-length = omega (arith, clean-length s (sp .len) at)
-
-  pub body-same : bodyOf at sp (chars (drop at s)) .crs ≡ 0 → bodyOf at sp (chars (drop at s)) .strays ≡ 0
-      → clean (take (sp .len) (chars (drop at s))) ≡ take (bodyOf at sp (chars (drop at s)) .end - at) (drop at s)
-  unfolding bodyOf
-  body-same e g =
-      let w = widths (take (sp .len) (chars (drop at s))) in
-      let n : at + w - at ≡ w = omega arith in
-      rw n (clean-same s (sp .len) at e g)
-
-  pub body-only : at ≤ length s → clean (take (sp .len) (chars (drop at s))) ≡ take (bodyOf at sp (chars (drop at s)) .end - at) (drop at s)
-      → (bodyOf at sp (chars (drop at s)) .crs ≡ 0) × (bodyOf at sp (chars (drop at s)) .strays ≡ 0)
-  unfolding bodyOf
-  body-only h e =
-      let w = widths (take (sp .len) (chars (drop at s))) in
-      let n : at + w - at ≡ w = omega arith in
-      clean-only s (sp .len) at h (rw n at e)
 
 pub clean-append : (a b : List Char) → clean (a ++ b) ≡ clean a ++ clean b
 unfolding clean

@@ -6,7 +6,8 @@ use Rattle.basics.specs.Spelling.{spelled}
 use Rattle.utf8.specs.Chars.{charsFrom, chars, firstChar, octets, encode}
 use Rattle.bodies.specs.Span.{toStop, toStarSlash}
 use Rattle.bodies.specs.Body.{bodyOf, rawBody, lineBody, clean}
-use Rattle.bodies.specs.Line.{isBlank, blankToEnd, endsLine}
+use Rattle.blanks.specs.Blank.{isSpace}
+use Rattle.bodies.specs.Line.{blankToEnd, endsLine}
 
 -- `/*/` is not closed
 opening-star : toStarSlash false (chars (spelled "/")) ≡ record { len = 1; closed = false }
@@ -38,17 +39,17 @@ line = refl
 
 -- `x /* c */ r` LF: the comment does not end its line
 code-behind : endsLine false (chars (spelled " c */ r" ++ (10 ∷ []))) ≡ false
-unfolding charsFrom firstChar isBlank blankToEnd endsLine
+unfolding charsFrom firstChar isSpace blankToEnd endsLine
 code-behind = refl
 
 blanks-behind : endsLine false (chars (spelled " c */ " ++ (9 ∷ 13 ∷ 10 ∷ []))) ≡ true
-unfolding charsFrom firstChar isBlank blankToEnd endsLine
+unfolding charsFrom firstChar isSpace blankToEnd endsLine
 blanks-behind = refl
 
 feed-inside : endsLine false (chars (10 ∷ spelled "*/ r")) ≡ true
-unfolding charsFrom firstChar isBlank blankToEnd endsLine
+unfolding charsFrom firstChar isSpace blankToEnd endsLine
 feed-inside = refl
 
 never-closed : endsLine false (chars (spelled "/ r")) ≡ true
-unfolding charsFrom firstChar isBlank blankToEnd endsLine
+unfolding charsFrom firstChar isSpace blankToEnd endsLine
 never-closed = refl

@@ -1,20 +1,17 @@
 -- Whether a general comment ends its line: "holds an LF, is never closed, or has only spaces, tabs and CRs between it and an LF or the end".
 use Prim.Native.Nat.{ℕ, _+_}
-use mathlib.Core.Bool.{Bool, true, false, cond, _&&_, _||_}
+use mathlib.Core.Bool.{Bool, true, false, cond, _&&_}
 use mathlib.Core.List.{List, [], _∷_}
 use lib.Dec.{eqb}
 use Rattle.utf8.specs.declared.Char.{Char}
+use Rattle.blanks.specs.Blank.{isSpace}
 use Rattle.bodies.specs.declared.line.Stop.{Stop}
 use Rattle.bodies.specs.declared.line.Stop.the-variants.{Closed, End}
 
--- a space, a tab or a CR
-unfoldable pub isBlank : ℕ → Bool
-isBlank c = eqb c 32 || (eqb c 9 || eqb c 13)
-
--- only blanks up to an LF or the end
+-- only spaces, tabs and CRs up to an LF or the end
 unfoldable pub blankToEnd : List Char → Bool
 blankToEnd [] = true
-blankToEnd (c ∷ r) = cond (eqb (c .code) 10) true (isBlank (c .code) && blankToEnd r)
+blankToEnd (c ∷ r) = cond (eqb (c .code) 10) true (isSpace (c .code) && blankToEnd r)
 
 -- of a general comment after its opening; `star`: the character before is a `*`
 unfoldable pub endsLine : Bool → List Char → Bool

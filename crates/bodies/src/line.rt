@@ -3,7 +3,7 @@ ghost use mathlib.Core.Path.{_≡_};
 ghost use mathlib.Core.Bool.{false};
 ghost use lib.ListN.{drop};
 ghost use Rattle.utf8.specs.Chars.{chars};
-ghost use Rattle.bodies.specs.Line.{isBlank, blankToEnd, stopFrom, endsLine};
+ghost use Rattle.bodies.specs.Line.{blankToEnd, stopFrom, endsLine};
 
 // Where and how the search for a comment's end stopped: closed before a place, or at the end of its line or of the source.
 pub(crate) enum Stop {
@@ -11,20 +11,7 @@ pub(crate) enum Stop {
     End { lf: bool },
 }
 
-// A space, a tab or a CR.
-fn is_blank(b: u8) -> bool
-    ensures { λ r. ⌜ r ≡ isBlank b ⌝ }
-{
-    if b == 32 {
-        return true;
-    }
-    if b == 9 {
-        return true;
-    }
-    b == 13
-}
-
-// Are there only blanks from a place to an LF or the end?
+// Are there only spaces, tabs and CRs from a place to an LF or the end?
 fn blank_to_end(src: &[u8], at: usize) -> bool
     ensures { λ r. ⌜ r ≡ blankToEnd (chars (drop at (now (src .entry)))) ⌝ }
 {
@@ -34,7 +21,7 @@ fn blank_to_end(src: &[u8], at: usize) -> bool
         if b == 10 {
             return true;
         }
-        if !is_blank(b) {
+        if !blanks::is_space(b) {
             return false;
         }
         p += 1;

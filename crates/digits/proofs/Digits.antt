@@ -1,16 +1,15 @@
 -- Laws of digits: the tests of the code in their order, and the digit at a place of a text.
 use Prim.Native.Nat.{ℕ, _-_, _≤_, _<_}
-use mathlib.Core.Path.{_≡_, ap, _∙_, sym}
+use mathlib.Core.Path.{_≡_}
 use mathlib.Core.Bool.{Bool, cond}
 use mathlib.Core.List.{List}
 use native.Mathlib.Omega.{arith}
-use native.Mathlib.Decide.{decLt}
 use lib.Dec.{ltb, eqb, eqb→eq}
 use lib.ListN.{length, getD, drop}
 use borrow.Author.Tests.{lt-leb, le-leb}
 use Rattle.basics.proofs.Every.{every-below}
 use Rattle.utf8.specs.Chars.{firstChar}
-use Rattle.utf8.proofs.First.{ascii-there, there-high}
+use Rattle.utf8.proofs.Places.{test-there}
 use Rattle.digits.specs.Digit.{digitVal}
 
 -- the same number by the bounds of the ranges, in their order
@@ -33,8 +32,4 @@ digit-high c h =
 
 -- the digit at a place may be read off the byte there
 pub digit-there : (s : List ℕ) (p : ℕ) → p < length s → digitVal (firstChar (drop p s) .code) ≡ digitVal (getD s p 0)
-digit-there s p h =
-    elim (decLt (getD s p 0) 0x80) [
-      | yes l ↦ ap (λ c. digitVal (c .code)) (ascii-there s p h l)
-      | no l ↦ digit-high (firstChar (drop p s) .code) (there-high s p h (omega arith)) ∙ sym (digit-high (getD s p 0) (omega arith))
-    ]
+digit-there s p h = test-there s p digitVal digit-high h

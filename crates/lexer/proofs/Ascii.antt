@@ -11,7 +11,7 @@ use borrow.Author.Tests.{lt-ltb, ne-eqb}
 use Rattle.basics.proofs.Lists.{drop-next}
 use Rattle.utf8.specs.declared.Char.{Char}
 use Rattle.utf8.specs.Chars.{ended, chars, widths, isStray, octets, encode, encoded}
-use Rattle.utf8.proofs.First.{chars-at, chars-end, chars-ascii, there-high}
+use Rattle.utf8.proofs.First.{chars-at, chars-end, chars-ascii, low-byte}
 use Rattle.bodies.specs.Body.{isLf, count}
 
 -- the first n characters are ASCII, and none is a line feed
@@ -54,7 +54,7 @@ ascii-facts (suc k) s p a =
     elim (decLt p (length s)) [
       | yes h ↦
           let first = rw (chars-at s p h) at (a .1 0 (omega arith)) in
-          let low : getD s p 0 < 0x80 = elim (decLt (getD s p 0) 0x80) [ yes l ↦ l | no l ↦ absurd (omega (arith, there-high s p h (omega arith), first .0)) ] in
+          let low = low-byte s p h (first .0) in
           let e = chars-ascii s p h low in
           let no-lf : getD s p 0 ≢ 10 = (rw e at (a .1 0 (omega arith))) .1 in
           step-ascii k s p h low no-lf (ascii-facts k s (p + 1) (omega (arith, ap length e, a .0), λ i l. rw e at (a .1 (suc i) (omega arith))))

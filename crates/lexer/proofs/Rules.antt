@@ -13,11 +13,12 @@ use Rattle.basics.proofs.Choice.{cond-ind, and-split}
 use Rattle.utf8.specs.declared.Char.{Char}
 use Rattle.utf8.specs.Chars.{peek, encoded}
 use Rattle.utf8.proofs.Ends.{Ends, ends-tail, ends-some, peek-append}
+use Rattle.utf8.proofs.Runs.{run-bound, run-local}
 use Rattle.token.specs.Kinds.{ILLEGAL, EOF, IDENT, COMMENT}
 use Rattle.token.specs.Table.{identToken}
 use Rattle.digits.specs.Digit.{isDecimal}
 use Rattle.words.specs.Word.{isLetter, isWord, wordLen}
-use Rattle.words.proofs.Words.{word-bound, word-local}
+use Rattle.words.proofs.Words.{word-run, feed-no-word}
 use Rattle.numbers.specs.Number.{number}
 use Rattle.numbers.proofs.Local.{number-local}
 use Rattle.numbers.proofs.Tested.{number-within, number-kind, number-some}
@@ -52,8 +53,8 @@ pub fine-word : (m : Bool) (c : Char) (r t : List Char) → isLetter (c .code) �
 fine-word m c r t e =
     let q : List Char = c ∷ r in
     let n = wordLen q in
-    fine-reads m q n _ _ (word-reads n (encoded (take n q))) (word-some c r e) (word-bound q)
-    (λ h s. let k = word-local q t h in (rw (k .0, take-append-le n q t (word-bound q)), λ _. k .1))
+    fine-reads m q n _ _ (word-reads n (encoded (take n q))) (word-some c r e) (run-bound word-run q)
+    (λ h s. let k = run-local word-run feed-no-word q t h in (rw (k .0, take-append-le n q t (run-bound word-run q)), λ _. k .1))
 
 -- the first character is a decimal digit, unless it is a point
 pub fine-number : (m : Bool) (c : Char) (r t : List Char) → (eqb (c .code) 46 ≡ false → isDecimal (c .code) ≡ true)

@@ -1,11 +1,11 @@
 -- What is said of words, operators and characters that start no token is right.
 use Prim.Native.Nat.{ℕ, zero, suc, _+_, _-_, _≤_, _<_}
 use mathlib.Core.Path.{_≡_, refl, sym, ap, _∙_}
-use mathlib.Core.Bool.{Bool, true, false, cond, not, _&&_, false≢true, true≢false}
+use mathlib.Core.Bool.{Bool, true, false, cond, not, _&&_, false≢true}
 use mathlib.Core.List.{List, [], _∷_, _++_, append-nil}
 use mathlib.Core.Logic.{_≢_, ⊎-elim}
 use native.Mathlib.Omega.{arith}
-use native.Mathlib.Nat.{add-zero, not-suc-le-zero}
+use native.Mathlib.Nat.{add-zero}
 use lib.Dec.{T, leb, ltb, eqb, lit<}
 use lib.ListN.{length, getD, take, drop, length-drop}
 use lib.Seq.{length-take-le, take-all}
@@ -16,13 +16,14 @@ use Rattle.basics.proofs.Lists.{same-length}
 use Rattle.utf8.specs.declared.Char.{Char}
 use Rattle.utf8.specs.Chars.{ended, firstChar, charAt, chars, widths, isStray, encode, encoded}
 use Rattle.utf8.proofs.First.{chars-at, charAt-in, chars-le, first-fits}
-use Rattle.utf8.proofs.Places.{code-there}
+use Rattle.utf8.proofs.Places.{ascii-only, code-there}
+use Rattle.utf8.proofs.Runs.{run-bound, run-passes, run-no-feed}
 use Rattle.utf8.proofs.Encoding.{first-coded}
 use Rattle.token.specs.Kinds.{ILLEGAL, IDENT, STRING}
 use Rattle.token.specs.Table.{Row, operators, identToken}
 use Rattle.token.proofs.Ranges.{true-of}
-use Rattle.words.specs.Word.{isLetter, isWord, wordLen}
-use Rattle.words.proofs.Words.{word-bound, word-ascii}
+use Rattle.words.specs.Word.{isWord, wordLen}
+use Rattle.words.proofs.Words.{word-high, word-run, feed-no-word}
 use Rattle.quotes.proofs.Places.{stray-there}
 use Rattle.operators.specs.declared.Operator.{Operator}
 use Rattle.operators.specs.Longest.{begins, longest, operatorOf}
@@ -78,21 +79,9 @@ module _ (s : List ℕ) (at end n kind : ℕ) (mark : Bool) (a : Ascii n (chars 
       })
 
 -- ---- words
-no-feed : (r : List Char) (i : ℕ) → i < wordLen r → getD r i ended .code ≢ 10
-unfolding wordLen
-no-feed [] i h = absurd (not-suc-le-zero h)
-no-feed (c ∷ r) i h = go i (isWord (c .code)) refl h (no-feed r)
-  where
-    feed : isWord 10 ≡ false
-    feed = unfold isWord isLetter in refl
-
-    go : (i : ℕ) (t : Bool) → isWord (c .code) ≡ t → i < cond t (suc (wordLen r)) 0 → ((k : ℕ) → k < wordLen r → getD r k ended .code ≢ 10) → getD (c ∷ r) i ended .code ≢ 10
-    go i false e h ih = absurd (not-suc-le-zero h)
-    go zero true e h ih = λ z. true≢false (sym e ∙ ap isWord z ∙ feed)
-    go (suc i) true e h ih = ih i (omega arith)
-
 word-plain : (r : List Char) → Ascii (wordLen r) r
-word-plain r = (word-bound r, λ i h. (word-ascii r i h, no-feed r i h))
+word-plain r =
+    (run-bound word-run r, λ i h. (ascii-only isWord word-high _ (run-passes word-run r i h), run-no-feed word-run feed-no-word r i h))
 
 identifier-is : (n : ℕ) (word : List ℕ) → identToken word ≡ IDENT → shown (identToken word) n word 0 true ≡ wordOf n word
 unfolding wordOf

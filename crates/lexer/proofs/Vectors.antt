@@ -20,7 +20,6 @@ use Rattle.quotes.specs.Body.{bodyFrom}
 use Rattle.bodies.specs.Span.{toStarSlash}
 use Rattle.bodies.specs.Body.{clean}
 use Rattle.bodies.specs.Line.{blankToEnd, endsLine}
-use Rattle.bodies.specs.Line as Line
 use Rattle.lexer.specs.Lexeme.{Lexeme, shown, bare, insertedSemicolon, raise}
 use Rattle.lexer.specs.Words.{wordOf, lexNumber}
 use Rattle.lexer.specs.Quotes.{lexString, lexChar}
@@ -77,10 +76,10 @@ over-range = refl
 
 -- `/* c */ r` under the mark: the comment does not end the line
 inside : first true " /* c */ r" ≡ raise 1 (shown COMMENT 7 (spelled "/* c */") 0 true)
-unfolding charsFrom firstChar octets encode skip isBlank isSpace isLetter toStarSlash clean Line.isBlank blankToEnd endsLine comment lexComment lexSlash lexBy lexToken lex
+unfolding charsFrom firstChar octets encode skip isBlank isSpace isLetter toStarSlash clean blankToEnd endsLine comment lexComment lexSlash lexBy lexToken lex
 inside = refl
 
 -- a comment at the end does
 at-end : first true " /* c */" ≡ raise 1 insertedSemicolon
-unfolding charsFrom firstChar octets encode skip isBlank isSpace isLetter Line.isBlank blankToEnd endsLine lexComment lexSlash lexBy lexToken lex
+unfolding charsFrom firstChar octets encode skip isBlank isSpace isLetter blankToEnd endsLine lexComment lexSlash lexBy lexToken lex
 at-end = refl

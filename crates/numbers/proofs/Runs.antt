@@ -1,6 +1,6 @@
 -- Laws of runs of digits: one step at a place of a text, by the byte there.
 use Prim.Native.Nat.{ℕ, zero, suc, _+_, _≤_, _<_}
-use mathlib.Core.Path.{_≡_, sym}
+use mathlib.Core.Path.{_≡_}
 use mathlib.Core.Bool.{Bool, true, false}
 use mathlib.Core.List.{List, [], _∷_}
 use mathlib.Core.Logic.{_≢_}
@@ -16,7 +16,7 @@ use Rattle.basics.proofs.Lists.{reach}
 use Rattle.utf8.specs.declared.Char.{Char}
 use Rattle.utf8.specs.Chars.{ended, chars}
 use Rattle.utf8.proofs.First.{chars-at, chars-end, chars-ascii}
-use Rattle.utf8.proofs.Places.{code-there, place-chars, ascii-widths}
+use Rattle.utf8.proofs.Places.{code-there, ascii-place}
 use Rattle.digits.specs.Digit.{digitVal}
 use Rattle.digits.proofs.Digits.{digit-high, digit-there}
 use Rattle.numbers.specs.Run.{Run, stop, more, digitRun, strictRun, digitsAt}
@@ -133,8 +133,7 @@ strict-plain base b r = strict-is (λ (d : Run). Plain (d .len) r) base r (plain
 -- ---- so the place after them is that many bytes on
 pub plain-place : (n : ℕ) (s : List ℕ) (p : ℕ) → Plain n (chars (drop p s)) → drop n (chars (drop p s)) ≡ chars (drop (p + n) s)
 unfolding Plain
-plain-place n s p f =
-    sym (rw (ascii-widths n s p (plain-within n (chars (drop p s)) f) (λ i h. f i h .1)) at (place-chars n s p))
+plain-place n s p f = ascii-place n s p (plain-within n (chars (drop p s)) f) (λ i h. f i h .1)
 
 module _ (base : ℕ) (b : base ≤ 16) (s : List ℕ) (p : ℕ) where
   pub run-place : drop (digitRun base false (chars (drop p s)) .len) (chars (drop p s)) ≡ chars (drop (p + digitRun base false (chars (drop p s)) .len) s)

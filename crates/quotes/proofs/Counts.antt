@@ -17,7 +17,7 @@ use Rattle.basics.proofs.Choice.{cond-ind, either}
 use Rattle.basics.proofs.Lists.{drop-next, same-refl, same-true}
 use Rattle.utf8.specs.declared.Char.{Char}
 use Rattle.utf8.specs.Chars.{octets, encode, firstChar, chars, isStray, widths}
-use Rattle.utf8.proofs.First.{ascii-there, chars-at, chars-end, chars-ascii, first-least, there-high}
+use Rattle.utf8.proofs.First.{ascii-there, chars-at, chars-end, chars-ascii, first-least, low-byte}
 use Rattle.utf8.proofs.Places.{place-chars, place-fits, ascii-widths}
 use Rattle.utf8.proofs.Append.{first-stray}
 use Rattle.utf8.proofs.Encoding.{first-coded}
@@ -61,9 +61,6 @@ unescaped true h = absurd (omega arith)
 unescaped false h = refl
 
 -- ---- ASCII characters have none
-low-byte : (s : List ℕ) (p : ℕ) → p < length s → firstChar (drop p s) .code < 0x80 → getD s p 0 < 0x80
-low-byte s p h l = elim (decLt (getD s p 0) 0x80) [ yes k ↦ k | no k ↦ absurd (omega (arith, there-high s p h (omega arith))) ]
-
 low-highs : (n : ℕ) (s : List ℕ) (p : ℕ) → Heads (λ c. c < 0x80) n (chars (drop p s)) → highs (take n (drop p s)) ≡ 0
 low-highs zero s p g = refl
 low-highs (suc n) s p g =

@@ -122,10 +122,6 @@ module _ (P : ℕ → Type 0) (inside : (c : ℕ) → 48 ≤ c → c ≤ 122 →
 pub escape-bound : (quote : ℕ) (r : List Char) → escapeOf quote r .len ≤ length r
 escape-bound quote r = heads-bound (λ _. Unit {0}) _ r (escape-heads (λ _. Unit {0}) (λ c l h. tt) quote tt r)
 
--- it reads no LF
-pub escape-no-lf : (quote : ℕ) → (quote ≡ 10 → ⊥) → (r : List Char) (i : ℕ) → i < escapeOf quote r .len → getD r i ended .code ≡ 10 → ⊥
-escape-no-lf quote q r = heads-at (λ c. c ≡ 10 → ⊥) _ r (escape-heads (λ c. c ≡ 10 → ⊥) (λ c l h e. omega arith) quote q r)
-
 -- with an ASCII quote, each of its characters is one byte
 pub escape-widths : (quote : ℕ) (s : List ℕ) (p : ℕ) → quote < 0x80
     → widths (take (escapeOf quote (chars (drop p s)) .len) (chars (drop p s))) ≡ escapeOf quote (chars (drop p s)) .len

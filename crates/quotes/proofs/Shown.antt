@@ -144,14 +144,6 @@ encoded-differs k s p h =
 
 -- ---- the value at a place, where there is no escape
 module _ (quote : ℕ) (s : List ℕ) (p : ℕ) (no-escape : body quote (chars (drop p s)) .escaped ≡ false) where
-  -- its length
-  pub value-length :
-      length (body quote (chars (drop p s)) .value) ≡ widths (take (body quote (chars (drop p s)) .count) (chars (drop p s))) + 2 * body quote (chars (drop p s)) .strays
-  value-length =
-      let r = chars (drop p s) in
-      let i = body-plain quote r no-escape in
-      rw (i .value, i .strays) (encoded-length (body quote r .count) s p)
-
   -- without a stray byte it is the bytes of the text
   pub value-shown : body quote (chars (drop p s)) .strays ≡ 0
       → body quote (chars (drop p s)) .value ≡ take (widths (take (body quote (chars (drop p s)) .count) (chars (drop p s)))) (drop p s)

@@ -1,10 +1,11 @@
 -- A rule at each number of a range, and a test that agrees with a range, by one test that antt computes.
 use Prim.Native.Nat.{ℕ, _+_, _-_, _≤_, _<_}
 use mathlib.Core.Path.{_≡_, refl, subst}
-use mathlib.Core.Bool.{Bool, true, false}
+use mathlib.Core.Bool.{Bool, true, false, Bool·beq}
 use native.Mathlib.Omega.{arith}
 use lib.Dec.{T, eqb, eqb→eq}
 use Rattle.basics.specs.Between.{between}
+use Rattle.basics.proofs.Choice.{same-test}
 use Rattle.basics.proofs.Every.{below, every-below}
 
 pub true-of : (b : Bool) → T b → b ≡ true
@@ -21,17 +22,6 @@ every-within f lo n t k l h =
 pub value-within : (f : ℕ → ℕ) (v lo n : ℕ) → T (below (λ j. eqb v (f (lo + j))) n) → (k : ℕ) → lo ≤ k → k < lo + n → v ≡ f k
 value-within f v lo n t k l h = eqb→eq v (f k) (every-within (λ m. eqb v (f m)) lo n t k l h)
 
-abbrev pub agree : Bool → Bool → Bool
-agree true b = b
-agree false true = false
-agree false false = true
-
-agree-true : (a b : Bool) → T (agree a b) → a ≡ b
-agree-true true true t = refl
-agree-true true false t = absurd t
-agree-true false true t = absurd t
-agree-true false false t = refl
-
 -- a test of bytes says whether they are between two others
-pub test-between : (f : ℕ → Bool) (lo hi : ℕ) → T (below (λ k. agree (f k) (between lo k hi)) 256) → (k : ℕ) → k < 256 → f k ≡ between lo k hi
-test-between f lo hi t k h = agree-true (f k) (between lo k hi) (every-below (λ m. agree (f m) (between lo m hi)) 256 t k h)
+pub test-between : (f : ℕ → Bool) (lo hi : ℕ) → T (below (λ k. Bool·beq (f k) (between lo k hi)) 256) → (k : ℕ) → k < 256 → f k ≡ between lo k hi
+test-between f lo hi t k h = same-test (f k) (between lo k hi) (every-below (λ m. Bool·beq (f m) (between lo m hi)) 256 t k h)

@@ -3,6 +3,7 @@ use Prim.Native.Nat.{ℕ, zero, suc, pred, _+_, _*_, _%_, _≤_, _<_}
 use mathlib.Core.Path.{_≡_, refl, sym, ap, _∙_}
 use mathlib.Core.List.{List, [], _∷_}
 use native.Mathlib.Omega.{arith}
+use native.Mathlib.Decide.{decLt}
 use native.Mathlib.Nat.{add-zero, not-suc-le-zero}
 use lib.Dec.{lit≤}
 use lib.ListN.{length, getD, drop, length-drop, drop-of-length-le}
@@ -157,6 +158,9 @@ pub there-high : (s : List ℕ) (p : ℕ) → p < length s → 0x80 ≤ getD s p
 there-high s p h l =
     let b : getD (drop p s) 0 0 ≡ getD s p 0 = simp (getD-drop, add-zero) in
     first-high (drop p s) (omega (arith, length-drop p s)) (rw b l)
+
+pub low-byte : (s : List ℕ) (p : ℕ) → p < length s → firstChar (drop p s) .code < 0x80 → getD s p 0 < 0x80
+low-byte s p h l = elim (decLt (getD s p 0) 0x80) [ yes k ↦ k | no k ↦ absurd (omega (arith, there-high s p h (omega arith))) ]
 
 -- ---- no more characters than bytes
 chars-le-from : (k : ℕ) (s : List ℕ) → length (charsFrom k s) ≤ length s

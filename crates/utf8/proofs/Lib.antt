@@ -5,6 +5,7 @@ pub mod Places
 pub mod AsciiBlock
 pub mod Answer
 pub mod Ends
+pub mod Runs
 pub mod Append
 pub mod Encoding
 pub mod Written

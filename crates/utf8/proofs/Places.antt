@@ -1,7 +1,7 @@
 -- Laws of a reader's place: the byte at which a character stands, tests for ASCII characters made on the byte, and the place so many characters on.
 use Prim.Native.Nat.{ℕ, zero, suc, _+_, _≤_, _<_}
 use mathlib.Core.Path.{_≡_, refl, sym, ap, _∙_}
-use mathlib.Core.Bool.{Bool, false}
+use mathlib.Core.Bool.{Bool, true, false, true≢false}
 use mathlib.Core.List.{List, [], _∷_}
 use native.Mathlib.Omega.{arith}
 use native.Mathlib.Decide.{decLt}
@@ -10,10 +10,13 @@ use lib.Dec.{eqb}
 use lib.ListN.{length, getD, take, drop, List·getD-eq-default}
 use borrow.Author.Tests.{ne-eqb}
 use Rattle.utf8.specs.Chars.{ended, firstChar, chars, peek, widths}
-use Rattle.utf8.proofs.First.{chars-at, chars-end, chars-ascii, there-high, ascii-there, first-fits-at}
+use Rattle.utf8.proofs.First.{chars-at, chars-end, chars-ascii, there-high, low-byte, ascii-there, first-fits-at}
 
--- ---- a test that fails above 127 may be made on the byte
-module _ (s : List ℕ) (p : ℕ) (f : ℕ → Bool) (high : (c : ℕ) → 0x80 ≤ c → f c ≡ false) where
+-- ---- a test that fails above 127: what passes it is ASCII, and it may be made on the byte
+pub ascii-only : (f : ℕ → Bool) → ((c : ℕ) → 0x80 ≤ c → f c ≡ false) → (c : ℕ) → f c ≡ true → c < 0x80
+ascii-only f high c e = elim (decLt c 0x80) [ yes l ↦ l | no l ↦ absurd (true≢false (sym e ∙ high c (omega arith))) ]
+
+module _ {A : Type 0} {high-value : A} (s : List ℕ) (p : ℕ) (f : ℕ → A) (high : (c : ℕ) → 0x80 ≤ c → f c ≡ high-value) where
   pub test-there : p < length s → f (firstChar (drop p s) .code) ≡ f (getD s p 0)
   test-there h =
       elim (decLt (getD s p 0) 0x80) [
@@ -62,7 +65,7 @@ ascii-step : (k : ℕ) (s : List ℕ) (p : ℕ) → p < length s → suc k ≤ l
 ascii-step k s p l h f more =
     let c = firstChar (drop p s) .code in
     let low : c < 0x80 = rw (chars-at s p l) at (f 0 (omega arith)) in
-    let b : getD s p 0 < 0x80 = elim (decLt (getD s p 0) 0x80) [ yes k ↦ k | no k ↦ absurd (omega (arith, there-high s p l (omega arith))) ] in
+    let b = low-byte s p l low in
     let e = chars-ascii s p l b in
     rw e (omega (arith, more (omega (arith, ap length e)) (λ i g. rw e at (f (suc i) (omega arith)))))
 
@@ -75,3 +78,7 @@ ascii-widths (suc k) s p h f =
       | yes l ↦ ascii-step k s p l h f (ascii-widths k s (p + 1))
       | no l ↦ absurd (omega (arith, ap length (chars-end s p (omega arith))))
     ]
+
+pub ascii-place : (k : ℕ) (s : List ℕ) (p : ℕ) → k ≤ length (chars (drop p s))
+    → ((i : ℕ) → i < k → getD (chars (drop p s)) i ended .code < 0x80) → drop k (chars (drop p s)) ≡ chars (drop (p + k) s)
+ascii-place k s p h f = sym (rw (ascii-widths k s p h f) at (place-chars k s p))

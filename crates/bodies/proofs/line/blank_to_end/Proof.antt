@@ -26,13 +26,13 @@ shared-slice-read-b c = search needs
 returns : tie.Need-returns Inv-loop μ-loop
 returns c = sym (c .before .before .before .loop .inv ∙ blank-lf _ _ (c .before .before .loop-test .taken) (c .if1 .taken))
 
-is-blank-requires : tie.Need-is-blank-requires Inv-loop μ-loop
-is-blank-requires c κs = tt
+is-space-requires : tie.Need-is-space-requires Inv-loop μ-loop
+is-space-requires c κs = tt
 
 returns-2 : tie.Need-returns-2 Inv-loop μ-loop
 returns-2 c =
     let l = c .before .before .before .before .before in
-    sym (l .loop .inv ∙ blank-other _ _ (c .before .before .before .before .loop-test .taken) (c .before .before .if1 .left) (sym (c .before .is-blank .ensures) ∙ not-true _ (c .if2 .taken)))
+    sym (l .loop .inv ∙ blank-other _ _ (c .before .before .before .before .loop-test .taken) (c .before .before .if1 .left) (sym (c .before .is-space .ensures) ∙ not-true _ (c .if2 .taken)))
 
 add-p : tie.Need-add-p Inv-loop μ-loop
 add-p c = omega arith
@@ -43,7 +43,7 @@ loop-less c = omega arith
 loop-again : tie.Need-loop-again Inv-loop μ-loop
 loop-again c =
     let l = c .before .before .before .before .before in
-    l .loop .inv ∙ blank-next _ _ (c .before .before .before .before .loop-test .taken) (c .before .before .if1 .left) (sym (c .before .is-blank .ensures) ∙ not-false _ (c .if2 .left))
+    l .loop .inv ∙ blank-next _ _ (c .before .before .before .before .loop-test .taken) (c .before .before .if1 .left) (sym (c .before .is-space .ensures) ∙ not-false _ (c .if2 .left))
 
 returns-3 : tie.Need-returns-3 Inv-loop μ-loop
 returns-3 c = sym (c .before .loop .inv ∙ blank-end _ _ (c .loop-test .left))
@@ -57,7 +57,7 @@ blank-to-end-spec =
     loop-holds
     shared-slice-read-b
     returns
-    is-blank-requires
+    is-space-requires
     returns-2
     add-p
     loop-less
