@@ -29,14 +29,17 @@ pub record Token : Type 0 where
   pub kind : ℕ
   -- the base of its file and the characters before it
   pub position : ℕ
-  -- the byte at which its own characters start
+  -- the byte at which its own characters start, and how many they are
   pub start : ℕ
+  pub len : ℕ
   -- a semicolon that does not stand in the text
   pub inserted : Bool
   -- text and value in bytes, and the code point of a CHAR
   pub text : List ℕ
   pub value : List ℕ
   pub code : ℕ
+  -- the number of its error, or 0
+  pub error : ℕ
 
 -- the token of a lexeme that is read here, in a file with the base given
 unfoldable pub token : ℕ → Lexeme → Reading → Token
@@ -45,10 +48,12 @@ token base x s =
       kind = x .kind;
       position = base + (s .offset + x .skipped);
       start = s .place + widths (take (x .skipped) (s .rest));
+      len = x .len;
       inserted = x .inserted;
       text = x .text;
       value = x .value;
       code = x .code;
+      error = x .error;
     }
 
 -- the token of scan k + 1
@@ -62,8 +67,10 @@ move bytes t =
       kind = t .kind;
       position = t .position;
       start = bytes + t .start;
+      len = t .len;
       inserted = t .inserted;
       text = t .text;
       value = t .value;
       code = t .code;
+      error = t .error;
     }

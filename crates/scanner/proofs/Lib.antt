@@ -1,4 +1,3 @@
-pub mod Opens
 pub mod Areas
 pub mod Recorded
 pub mod Pass

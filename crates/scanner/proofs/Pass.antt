@@ -27,7 +27,7 @@ use Rattle.lexer.specs.Lexeme.{Lexeme, taken, raise}
 use Rattle.lexer.specs.Lex.{lexToken, lex}
 use Rattle.lexer.specs.Placed.{Placed, valueRead, textDiffersIn, placed, said}
 use Rattle.lexer.proofs.Laws.{lex-laws}
-use Rattle.scanner.specs.declared.state.State.{State}
+use Rattle.state.specs.declared.state.State.{State}
 use Rattle.scanner.specs.Scan.{toArea}
 use Rattle.scanner.specs.Steps.{textLen, valueLen, toWrite}
 

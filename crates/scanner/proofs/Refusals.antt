@@ -6,7 +6,7 @@ use native.Mathlib.Omega.{arith}
 use lib.Dec.{eqb, leb, ltb}
 use borrow.Author.Tests.{ltb-false, leb-true, leb-false, lt-ltb, le-ltb, le-leb, lt-leb, eq-eqb, ne-eqb}
 use Rattle.lexer.specs.declared.lexed.Lexed.{Lexed}
-use Rattle.scanner.specs.declared.state.State.{State}
+use Rattle.state.specs.declared.state.State.{State}
 use Rattle.scanner.specs.Steps.{textLen, valueLen, toWrite, refusalBy}
 
 -- ---- the area's room

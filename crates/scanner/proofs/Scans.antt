@@ -25,8 +25,8 @@ use Rattle.lexer.specs.declared.lexed.Lexed.{Lexed}
 use Rattle.lexer.specs.Lexeme.{Lexeme, raise}
 use Rattle.lexer.specs.Placed.{Placed, placed, said}
 use Rattle.reading.specs.Reading.{Reading, errorAt, newErrors, after}
-use Rattle.scanner.specs.declared.state.State.{State}
-use Rattle.scanner.specs.Fits.{fileOf, fitsAlone, fitsTable, fitsSource, fitsList, fits}
+use Rattle.state.specs.declared.state.State.{State}
+use Rattle.state.specs.Fits.{fileOf, fitsAlone, fitsTable, fitsSource, fitsList, fits}
 use Rattle.scanner.specs.Scan.{view, written, startOf, toArea, tokenOf, refusalOf, After, refusedBy, stateOf, withError, gaveBy, unless, scanBy, scanOf}
 use Rattle.scanner.specs.Steps.{refusalBy, stateBy, tokenBy, startsFrom, Ready, commitOf}
 use Rattle.scanner.proofs.Refusals.{passed}

@@ -1,5 +1,2 @@
-pub mod Fits
-pub mod Opening
 pub mod Scan
 pub mod Steps
-pub mod Queries

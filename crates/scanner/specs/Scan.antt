@@ -13,11 +13,11 @@ use Rattle.lexer.specs.Lexeme.{Lexeme}
 use Rattle.lexer.specs.Lex.{lex}
 use Rattle.lexer.specs.Placed.{Placed, placed}
 use Rattle.reading.specs.Reading.{Reading, errorAt, after}
-use Rattle.scanner.specs.declared.state.State.{State}
-use Rattle.scanner.specs.declared.answer.Part.{Part}
+use Rattle.state.specs.declared.state.State.{State}
+use Rattle.state.specs.declared.part.Part.{Part}
 use Rattle.scanner.specs.declared.answer.Token.{Token}
 use Rattle.scanner.specs.declared.answer.Scanned.{Scanned}
-use Rattle.scanner.specs.Fits.{fits}
+use Rattle.state.specs.Fits.{fits}
 
 -- how far a state and its buffers say that a source has been read
 unfoldable pub view : List ℕ → State → List ℕ → List ℕ → Reading

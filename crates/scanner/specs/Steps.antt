@@ -15,9 +15,9 @@ use Rattle.errors.specs.Errors.{roomOf}
 use Rattle.reading.specs.Reading.{errorAt}
 use Rattle.lexer.specs.declared.lexed.Lexed.{Lexed}
 use Rattle.lexer.specs.Placed.{lengthOf, said}
-use Rattle.scanner.specs.declared.state.State.{State}
+use Rattle.state.specs.declared.state.State.{State}
 use Rattle.scanner.specs.declared.answer.Token.{Token}
-use Rattle.scanner.specs.Fits.{fileOf}
+use Rattle.state.specs.Fits.{fileOf}
 use Rattle.scanner.specs.Scan.{partFrom, written, toArea, After}
 
 -- how many bytes text and value have

@@ -1,6 +1,7 @@
 // What a scan answers: a token by its parts, and the state after it.
-use crate::state::State;
 use lexer::Lexed;
+use state::Part;
+use state::State;
 ghost use mathlib.Core.Path.{_≡_};
 ghost use mathlib.Core.Bool.{cond};
 ghost use Prim.Native.Nat.{_+_, _<_, _^_};
@@ -9,13 +10,6 @@ ghost use Rattle.token.specs.Kinds.{STRING};
 ghost use Rattle.lexer.specs.Placed.{lengthOf};
 ghost use Rattle.scanner.specs.Scan.{partFrom, noToken};
 ghost use Rattle.scanner.specs.Steps.{textLen, valueLen, tokenBy};
-
-// The part of the text area, or of the source, in which a text or a value stands.
-pub struct Part {
-    pub area: bool,
-    pub start: usize,
-    pub end: usize,
-}
 
 pub struct Token {
     pub kind: u8,

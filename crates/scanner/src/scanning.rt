@@ -2,10 +2,10 @@
 use crate::answer::Scanned;
 use crate::answer::refused;
 use crate::answer::token_of;
-use crate::state::State;
 use crate::write::write_area;
 use crate::write::write_error;
 use lexer::Lexed;
+use state::State;
 ghost use mathlib.Core.Path.{_≡_};
 ghost use Prim.Native.Nat.{_+_, _*_, _≤_, _<_, _^_};
 ghost use mathlib.Core.Bool.{true, cond};
@@ -19,7 +19,7 @@ ghost use Rattle.position.specs.Place.{fitting};
 ghost use Rattle.errors.specs.Layout.{width, numbers};
 ghost use Rattle.errors.specs.Errors.{roomOf};
 ghost use Rattle.reading.specs.Reading.{errorAt};
-ghost use Rattle.scanner.specs.Fits.{fileOf};
+ghost use Rattle.state.specs.Fits.{fileOf};
 ghost use Rattle.scanner.specs.Scan.{scanOf};
 ghost use Rattle.scanner.specs.Steps.{toWrite, refusalBy, stateBy, startsFrom, Ready, commitOf};
 

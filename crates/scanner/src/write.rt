@@ -1,9 +1,9 @@
 // What a scan writes besides line starts: the record of its error, and a text and a value that differ from the source's bytes.
-use crate::state::State;
 use lexer::Lexed;
 use lexer::Text;
 use lexer::Value;
 use position::Located;
+use state::State;
 ghost use mathlib.Core.Path.{_≡_};
 ghost use mathlib.Core.Bool.{true};
 ghost use Prim.Native.Nat.{_+_, _*_, _≤_, _<_, _^_};
@@ -14,7 +14,7 @@ ghost use Rattle.errors.specs.Layout.{width, numbers};
 ghost use Rattle.errors.specs.Errors.{roomOf};
 ghost use Rattle.reading.specs.Reading.{errorAt};
 ghost use Rattle.lexer.specs.Placed.{said};
-ghost use Rattle.scanner.specs.Fits.{fileOf};
+ghost use Rattle.state.specs.Fits.{fileOf};
 ghost use Rattle.scanner.specs.Scan.{written, toArea};
 ghost use Rattle.scanner.specs.Steps.{textLen, toWrite};
 

@@ -11,7 +11,7 @@ use Rattle.position.proofs.Place.{fit}
 use Rattle.errors.specs.Errors.{roomOf}
 use Rattle.blanks.specs.declared.Skipped.{Skipped}
 use Rattle.blanks.specs.Blank.{skip}
-use Rattle.scanner.specs.Fits.{fits}
+use Rattle.state.specs.Fits.{fits}
 use Rattle.scanner.specs.Steps.{refusalBy}
 use Rattle.scanner.proofs.Pass.{start-behind, read-bound, read-fits, offset-fits, feeds-read, feeds-fit}
 use Rattle.scanner.proofs.Scans.{Held, held, scan-unfit, scan-refused, scan-gave, ready}

@@ -6,7 +6,7 @@ use borrow.Author.Needs.{needs}
 use Rattle.position.specs.Answers.{located}
 use Rattle.position.specs.Queries.{positionOf}
 use Rattle.position.proofs.Place.{fit}
-use Rattle.scanner.specs.Fits.{fileOf}
+use Rattle.state.specs.Fits.{fileOf}
 use Rattle.scanner.proofs.Recorded.{never-refused, recorded}
 use Rattle.scanner.proofs.write.write_error.Statement.{statement}
 use Rattle.scanner.proofs.write.write_error.Tie as tie

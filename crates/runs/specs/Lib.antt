@@ -1,0 +1,4 @@
+pub mod Calls
+pub mod Progress
+pub mod Joined
+pub mod Table

@@ -1,0 +1,1 @@
+-- The proved table: ten texts, the last at two sizes, and what opening and scans give for them.

@@ -1,0 +1,39 @@
+// Opening a text.
+use crate::state::State;
+ghost use mathlib.Core.Path.{_≡_};
+ghost use Rattle.state.specs.Opening.{openOf, outcomeOf, placeOf};
+
+// The first state and the number of characters; or the number of the refusal, and for bytes that are not UTF-8 the place of one that
+// belongs to no well-formed character.
+pub enum Opened {
+    Ready { state: State, chars: usize },
+    NotUtf8 { place: usize },
+    Refused(u8),
+}
+
+// Opens a source at a base, in a size, and records the start of its first line.
+pub fn open(src: &[u8], base: usize, size: usize, table: &mut [usize]) -> Opened
+    ensures { λ r. ⌜ record { table = now (table .exit); outcome = outcomeOf r; place = placeOf r } ≡ openOf (now (src .entry)) base size (now (table .entry)) ⌝ }
+{
+    if src.len() > State::MAX_SOURCE {
+        return Opened::Refused(refusal::TOO_LONG);
+    }
+    let checked = utf8::check(src);
+    match checked {
+        utf8::Checked::Bad(place) => Opened::NotUtf8 { place },
+        utf8::Checked::Valid(chars) => {
+            let state = State::new(base, size);
+            if chars > size {
+                return Opened::Refused(refusal::SIZE);
+            }
+            if !state.file().is_placed() {
+                return Opened::Refused(refusal::SIZE);
+            }
+            if table.len() == 0 {
+                return Opened::Refused(refusal::TABLE_FULL);
+            }
+            table[0] = 0;
+            Opened::Ready { state, chars }
+        }
+    }
+}

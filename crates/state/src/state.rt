@@ -1,0 +1,91 @@
+// The state of a scan, which goes from call to call by value.
+ghost use mathlib.Core.Path.{_≡_};
+ghost use Rattle.state.specs.Fits.{fileOf, fitsAlone, fitsTable, fits};
+ghost use Rattle.state.specs.Opening.{fresh};
+
+pub struct State {
+    // positions are base to base + size
+    pub base: usize,
+    pub size: usize,
+    // the next scan starts at this byte, with so many characters before it
+    pub place: usize,
+    pub offset: usize,
+    // the pending mark: a semicolon may be inserted
+    pub mark: bool,
+    // how many line starts and errors are recorded
+    pub lines: usize,
+    pub errors: usize,
+}
+
+impl State {
+    // The longest source in bytes.
+    pub const MAX_SOURCE: usize = 1_048_576;
+
+    // The state before the first scan.
+    pub fn new(base: usize, size: usize) -> State
+        ensures { λ r. ⌜ r ≡ fresh base size ⌝ }
+    {
+        State {
+            base,
+            size,
+            place: 0,
+            offset: 0,
+            mark: false,
+            lines: 1,
+            errors: 0,
+        }
+    }
+
+    // The text's place among positions.
+    pub fn file(self) -> position::File
+        ensures { λ r. ⌜ r ≡ fileOf self ⌝ }
+    {
+        position::File {
+            base: self.base,
+            size: self.size,
+            lines: self.lines,
+        }
+    }
+
+    // Does the state go together with itself?
+    pub(crate) fn fits_alone(self) -> bool
+        ensures { λ r. ⌜ r ≡ fitsAlone self ⌝ }
+    {
+        if self.offset > self.place {
+            return false;
+        }
+        if self.offset > self.size {
+            return false;
+        }
+        if self.lines < 1 {
+            return false;
+        }
+        self.file().is_placed()
+    }
+
+    // Does it go together with a table of line starts?
+    pub(crate) fn fits_table(self, table: &[usize]) -> bool
+        ensures { λ r. ⌜ r ≡ fitsTable self (now (table .entry)) ⌝ }
+    {
+        if !self.file().fits(table) {
+            return false;
+        }
+        table[self.lines - 1] <= self.offset
+    }
+
+    // Does it go together with all that a scan is lent?
+    pub fn fits(self, src: &[u8], table: &[usize], list: &[usize]) -> bool
+        ensures { λ r. ⌜ r ≡ fits self (now (src .entry)) (now (table .entry)) (now (list .entry)) ⌝ }
+    {
+        if !self.fits_alone() {
+            return false;
+        }
+        if !self.fits_table(table) {
+            return false;
+        }
+        if self.place > src.len() {
+            return false;
+        }
+        self.errors <= errors::room(list)
+    }
+}
