@@ -49,7 +49,7 @@ module _ (m : Bool) (r : List Char) where
         bound = omega arith;
         only = λ k. absurd (omega arith);
         local = λ h s. (refl, λ k. absurd (true≢false (sym k)));
-        moves = λ k. inr (e, refl, refl, refl);
+        moves = λ k. inr (e, refl, refl, refl, refl);
       }
 
 -- a token of n characters of the text

@@ -7,13 +7,13 @@ use mathlib.Core.Logic.{_≢_, _⊎_}
 use lib.ListN.{length, drop}
 use Rattle.utf8.specs.declared.Char.{Char}
 use Rattle.utf8.proofs.Ends.{Ends}
-use Rattle.token.specs.Kinds.{EOF}
+use Rattle.token.specs.Kinds.{EOF, SEMICOLON}
 use Rattle.lexer.specs.Lexeme.{Lexeme, taken, Shut, bare, raise}
 
 -- a token reads a character, or it is an inserted semicolon, which only a set mark gives and which clears it
 abbrev pub Moves : Bool → Lexeme → Type 0
 Moves m x =
-    ((0 < x .len) × (x .inserted ≡ false)) ⊎ ((m ≡ true) × (x .len ≡ 0) × (x .inserted ≡ true) × (x .mark ≡ false))
+    ((0 < x .len) × (x .inserted ≡ false)) ⊎ ((m ≡ true) × (x .len ≡ 0) × (x .inserted ≡ true) × (x .mark ≡ false) × (x .kind ≡ SEMICOLON))
 
 -- m is the mark, r the characters left, t more text behind them
 pub record LexLaws (lex : Bool → List Char → Lexeme) : Type 0 where
