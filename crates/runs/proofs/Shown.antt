@@ -1,14 +1,14 @@
 -- What a token shows when its own scan returns: its text and its value, from the text area or from the source.
 use Prim.Native.Nat.{ℕ, zero, suc, _+_, _-_, _≤_, _<_}
 use mathlib.Core.Path.{_≡_, refl, sym, ap, _∙_}
-use mathlib.Core.Bool.{Bool, true, false, cond, not, _&&_}
+use mathlib.Core.Bool.{Bool, true, false, cond, not}
 use mathlib.Core.List.{List, [], _∷_, _++_, append-assoc}
 use native.Mathlib.Nat.{add-sub-cancel-left}
 use native.Mathlib.Omega.{arith}
 use native.Mathlib.Decide.{decLt}
-use lib.Dec.{eqb, leb}
+use lib.Dec.{eqb}
 use lib.ListN.{length, take, drop, length-append, length-drop}
-use lib.Seq.{length-take-le, take-append-seam, drop-append-seam, drop-drop, take-take, drop-nil}
+use lib.Seq.{length-take-le, take-append-seam, drop-append-seam, drop-drop, take-take}
 use borrow.Author.Tests.{le-leb, not-false, eqb-true}
 use Rattle.basics.specs.Same.{same}
 use Rattle.basics.proofs.Lists.{same-true}
@@ -17,7 +17,7 @@ use Rattle.utf8.proofs.First.{chars-at, chars-end, first-least}
 use Rattle.utf8.proofs.Places.{place-fits}
 use Rattle.token.specs.Kinds.{STRING}
 use Rattle.lexer.specs.Lexeme.{Lexeme}
-use Rattle.lexer.specs.Placed.{Placed, placed, valueRead, textDiffersIn}
+use Rattle.lexer.specs.Placed.{placed, valueRead, textDiffersIn}
 use Rattle.state.specs.Queries.{Shown, shownIn, shownOf}
 use Rattle.scanner.specs.Scan.{written, toArea, partFrom, textPart, valuePart}
 
