@@ -1,3 +1,4 @@
 pub mod Seen
 pub mod Shown
 pub mod Played
+pub mod Parts
