@@ -1,1 +1,3 @@
 pub mod Seen
+pub mod Firsts
+pub mod Progress
