@@ -1,4 +1,10 @@
 pub mod Seen
+pub mod Firsts
 pub mod Shown
 pub mod Played
+pub mod Accepted
 pub mod Parts
+pub mod Room
+pub mod Progress
+pub mod Closing
+pub mod Joined
