@@ -59,12 +59,13 @@ fit-fits src h f =
       le-leb _ _ (k .errors),
     )
 
+-- ---- an accepted opening
 pub fit-accepted : {src : List ℕ} {base size : ℕ} {h : Held} → Accepted src base size h → Fit src h
-unfolding fresh
+unfolding fresh among
 fit-accepted {src} {base} {size} {h} a =
     let e = accepted-state a in
     let z = accepted-table a in
-    let g : FileFit (fileOf (h .state)) (h .table) = record { top = unfold among in leb-true _ _ (accepted-placed a); some = rw e (omega arith); held = rw e (z .some); first = z .first } in
+    let g : FileFit (fileOf (h .state)) (h .table) = record { top = leb-true _ _ (accepted-placed a); some = rw e (omega arith); held = rw e (z .some); first = z .first } in
     record {
       holds =
           record {
@@ -78,6 +79,7 @@ fit-accepted {src} {base} {size} {h} a =
     }
 
 -- ---- a lexeme
+-- every character is counted by a test that always holds
 counted : (cs : List Char) → count (λ c. true) cs ≡ length cs
 counted [] = refl
 counted (c ∷ cs) = omega (arith, counted cs)
@@ -91,7 +93,7 @@ room-with number n list u =
 last-written : (starts table : List ℕ) → 1 ≤ length starts → lineStart (written starts table) (length starts) ≡ lineStart starts (length starts)
 last-written starts table h = List·getD-append starts (drop (length starts) table) 0 (length starts - 1) (omega arith)
 
--- there is room for what a lexeme leaves
+-- what it leaves fits, where the buffers have room for it
 module _ (src : List ℕ) (h : Held) (f : Fit src h) (y : Lexeme) (bound : taken y ≤ length (viewOf src h .rest)) where
   abbrev v : Reading
   v = after (h .state .size) y (viewOf src h)
@@ -157,7 +159,7 @@ roomy true list area e = absurd (omega arith)
 roomy false true area e = absurd (omega arith)
 roomy false false area e = (refl, refl)
 
-module _ (src area : List ℕ) (h : Held) where
+module _ (src : List ℕ) (h : Held) (f : Fit src h) where
   abbrev s : State
   s = h .state
 
@@ -174,20 +176,20 @@ module _ (src area : List ℕ) (h : Held) where
   abbrev u : Reading
   u = next lex (s .size) r
 
-  abbrev gives : After
-  gives = gaveBy s p (tokenOf (s .base) (startOf r x) r p) u (h .table) (h .list) area
+  bound : taken x ≤ length (r .rest)
+  unfolding scanned
+  bound = lex-laws .bound _ _
 
-  abbrev refusal : ℕ
-  refusal = refusalOf (fits s src (h .table) (h .list)) (s .size) u (length (h .table)) (roomOf (h .list)) (length (toArea p)) (length area)
+  pub next-sized : u .offset ≤ s .size
+  unfolding next after view
+  next-sized = omega (arith, f .rest, bound)
 
-  module _ (f : Fit src h) where
-    bound : taken x ≤ length (r .rest)
-    unfolding scanned
-    bound = lex-laws .bound _ _
+  module _ (area : List ℕ) where
+    abbrev gives : After
+    gives = gaveBy s p (tokenOf (s .base) (startOf r x) r p) u (h .table) (h .list) area
 
-    pub next-sized : u .offset ≤ s .size
-    unfolding next after view
-    next-sized = omega (arith, f .rest, bound)
+    abbrev refusal : ℕ
+    refusal = refusalOf (fits s src (h .table) (h .list)) (s .size) u (length (h .table)) (roomOf (h .list)) (length (toArea p)) (length area)
 
     refusal-is : refusal ≡ wants src h area
     refusal-is = rw (fit-fits src h f, le-ltb _ _ next-sized)
@@ -207,8 +209,8 @@ module _ (src area : List ℕ) (h : Held) where
 pub fit-play : (src : List ℕ) (areas : List (List ℕ)) (h : Held) → Fit src h → Fit src (play src areas h)
 unfolding play
 fit-play src [] h f = f
-fit-play src (area ∷ areas) h f = fit-play src areas (left (call src area h)) (fit-call src area h f)
+fit-play src (area ∷ areas) h f = fit-play src areas (left (call src area h)) (fit-call src h f area)
 
 pub only-room : (src : List ℕ) (base size : ℕ) (h : Held) → Accepted src base size h → (areas : List (List ℕ)) (area : List ℕ)
     → call src area (play src areas h) .answer .refusal ≡ wants src (play src areas h) area
-only-room src base size h a areas area = call-wants src area (play src areas h) (fit-play src areas h (fit-accepted a))
+only-room src base size h a areas area = call-wants src (play src areas h) (fit-play src areas h (fit-accepted a)) area
