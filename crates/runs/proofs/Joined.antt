@@ -22,7 +22,7 @@ use Rattle.reading.proofs.Ending.{scanned-bound, within-run}
 use Rattle.reading.proofs.Scanner.{scan-joined}
 use Rattle.scanner.specs.Scan.{view}
 use Rattle.runs.specs.Calls.{Held, Accepted, Seen, play, tokens, Record, recordOf}
-use Rattle.runs.specs.Joined.{Closed, NoEof, FirstEof, moveSeen, joinedRecord, JoinedRuns}
+use Rattle.runs.specs.Joined.{Closed, ThreeRuns, NoEof, FirstEof, moveSeen, joinedRecord, JoinedRuns}
 use Rattle.runs.proofs.Seen.{seenOf, firsts, viewOf}
 use Rattle.runs.proofs.Played.{played-view, played-tokens}
 use Rattle.runs.proofs.Accepted.{accepted-view, accepted-base, accepted-size, accepted-formed, accepted-fits}
@@ -187,7 +187,6 @@ module _ (x y : List ℕ) (base size : ℕ) (h h₁ h₂ : Held) (closed : Close
             (rw (at-record x base size h₁ a₁ ending _ (ends-count x base size h₁ a₁ ending ts f), at-record y _ _ h₂ a₂ second _ refl));
       }
 
-pub joined-runs : (x y : List ℕ) (base size : ℕ) (h h₁ h₂ : Held) → Closed x → Accepted (x ++ y) base size h → Accepted x base size h₁
-    → Accepted y (base + length (chars x)) (size - length (chars x)) h₂ → (ending : List (List ℕ)) (ts : List Seen) → FirstEof x h₁ ending ts
-    → JoinedRuns x y h h₁ h₂ ending ts
-joined-runs = joined
+pub joined-runs : (x y : List ℕ) (base size : ℕ) (h h₁ h₂ : Held) → ThreeRuns x y base size h h₁ h₂ → (ending : List (List ℕ)) (ts : List Seen)
+    → FirstEof x h₁ ending ts → JoinedRuns x y h h₁ h₂ ending ts
+joined-runs x y base size h h₁ h₂ r = joined x y base size h h₁ h₂ (r .closed) (r .joined) (r .first) (r .second)

@@ -1,5 +1,5 @@
 -- Demand 3: the run over two joined texts is the run over the first and then the run over the second.
-use Prim.Native.Nat.{ℕ, _+_, _≤_, _<_}
+use Prim.Native.Nat.{ℕ, _+_, _-_, _≤_, _<_}
 use mathlib.Core.Path.{_≡_}
 use mathlib.Core.Bool.{Bool, true, false}
 use mathlib.Core.List.{List, [], _∷_, _++_, map}
@@ -11,11 +11,18 @@ use Rattle.bodies.specs.Body.{isLf, count}
 use Rattle.reading.specs.Joined.{AllShut, moveError}
 use Rattle.state.specs.declared.part.Part.{Part}
 use Rattle.scanner.specs.declared.answer.Token.{Token}
-use Rattle.runs.specs.Calls.{Held, Seen, tokens, Record, recordOf}
+use Rattle.runs.specs.Calls.{Held, Accepted, Seen, tokens, Record, recordOf}
 
 -- "any first text that is empty or ends in a line feed"
 abbrev pub Closed : List ℕ → Type 0
 Closed x = (x ≡ []) ⊎ ((before : List ℕ) × (x ≡ before ++ (10 ∷ [])))
+
+-- three accepted openings: "The joined run and the first have base b and size s; the second has b + n1 and s − n1."
+pub record ThreeRuns (x y : List ℕ) (base size : ℕ) (h h₁ h₂ : Held) : Type 0 where
+  pub closed : Closed x
+  pub joined : Accepted (x ++ y) base size h
+  pub first : Accepted x base size h₁
+  pub second : Accepted y (base + length (chars x)) (size - length (chars x)) h₂
 
 abbrev pub NoEof : List Seen → Type 0
 NoEof [] = Unit {0}
@@ -62,8 +69,7 @@ joinedRecord x ts first second =
       errors = first .errors ++ map (moveError (length (chars x)) (count isLf (chars x))) (second .errors);
     }
 
--- x and y are the texts; h, h₁ and h₂ what the openings of x ++ y, x and y left; `ending` are the calls that bring the first run to
--- its EOF, with ts before it. One claim about any calls of the three runs
+-- one claim about any calls of the three runs; `ending` are those that bring the first run to its EOF, with ts before it
 pub record JoinedRuns (x y : List ℕ) (h h₁ h₂ : Held) (ending : List (List ℕ)) (ts : List Seen) : Type 0 where
   -- "After scan i of both, i from 1 to a, the joined run and the first have the same token, table and errors."
   pub first : (joined first : List (List ℕ)) → length (tokens (x ++ y) joined h) ≡ length (tokens x first h₁) → length (tokens x first h₁) ≤ length ts
