@@ -39,39 +39,23 @@ abbrev shown : (n : ℕ) → All {A = ℕ} (λ k. (zero ≡ zero) × (zero ≡ z
 shown zero = tt
 shown (suc n) = ((refl, refl), shown n)
 
+-- one row and the rows after it
+infixr 5 _also_
+abbrev _also_ : {A B : Type 0} → A → B → A × B
+_also_ a b = (a, b)
+
 pub table-holds : TableHolds
 unfolding rows same charsFrom firstChar octets encode keywords kindNamed digitVal isLetter isWord wordLen isSpace isBlank skip digitRun finish decimalRest decimal prefixed bareZero leadingZero withoutI number numberText numeral letter byteOf octalEscape escapeOf bodyFrom toStop toStarSlash clean blankToEnd endsLine wordOf lexNumber lexString lexChar lexRaw comment lexComment lexSlash lexBy lexToken lex Placed.placed readLines lineOf startOf columnOf placed fitting numbers errorAt errorsOf after fresh openOf shownOf view scanBy scanOf call play tokens
-table-holds = (
-  record { accepted = record { lent = replicate 4 0; opening = refl }; gives = refl; shown = shown 1; errors = refl },
-  (
-    record { accepted = record { lent = replicate 4 0; opening = refl }; gives = refl; shown = shown 3; errors = refl },
-    (
-      record { accepted = record { lent = replicate 4 0; opening = refl }; gives = refl; shown = shown 4; errors = refl },
-      (
-        record { accepted = record { lent = replicate 4 0; opening = refl }; gives = refl; shown = shown 3; errors = refl },
-        (
-          record { accepted = record { lent = replicate 4 0; opening = refl }; gives = refl; shown = shown 3; errors = refl },
-          (
-            record { accepted = record { lent = replicate 4 0; opening = refl }; gives = refl; shown = shown 3; errors = refl },
-            (
-              record { accepted = record { lent = replicate 4 0; opening = refl }; gives = refl; shown = shown 4; errors = refl },
-              (
-                record { accepted = record { lent = replicate 4 0; opening = refl }; gives = refl; shown = shown 5; errors = refl },
-                (
-                  record { accepted = record { lent = replicate 4 0; opening = refl }; gives = refl; shown = shown 4; errors = refl },
-                  (
-                    record { accepted = record { lent = replicate 4 0; opening = refl }; gives = refl; shown = shown 3; errors = refl },
-                    (
-                      record { accepted = record { lent = replicate 4 0; opening = refl }; gives = refl; shown = shown 3; errors = refl },
-                      tt,
-                    ),
-                  ),
-                ),
-              ),
-            ),
-          ),
-        ),
-      ),
-    ),
-  ),
-)
+table-holds =
+    record { accepted = record { lent = replicate 4 0; opening = refl }; gives = refl; shown = shown 1; errors = refl } also
+    record { accepted = record { lent = replicate 4 0; opening = refl }; gives = refl; shown = shown 3; errors = refl } also
+    record { accepted = record { lent = replicate 4 0; opening = refl }; gives = refl; shown = shown 4; errors = refl } also
+    record { accepted = record { lent = replicate 4 0; opening = refl }; gives = refl; shown = shown 3; errors = refl } also
+    record { accepted = record { lent = replicate 4 0; opening = refl }; gives = refl; shown = shown 3; errors = refl } also
+    record { accepted = record { lent = replicate 4 0; opening = refl }; gives = refl; shown = shown 3; errors = refl } also
+    record { accepted = record { lent = replicate 4 0; opening = refl }; gives = refl; shown = shown 4; errors = refl } also
+    record { accepted = record { lent = replicate 4 0; opening = refl }; gives = refl; shown = shown 5; errors = refl } also
+    record { accepted = record { lent = replicate 4 0; opening = refl }; gives = refl; shown = shown 4; errors = refl } also
+    record { accepted = record { lent = replicate 4 0; opening = refl }; gives = refl; shown = shown 3; errors = refl } also
+    record { accepted = record { lent = replicate 4 0; opening = refl }; gives = refl; shown = shown 3; errors = refl } also
+    tt
