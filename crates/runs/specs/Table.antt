@@ -14,7 +14,7 @@ use Rattle.runs.specs.Calls.{Held, Accepted, Seen, play, tokens, errorsI
 -- what the table says of a token; without a text, `text` is []
 pub record Shows : Type 0 where
   pub kind : ℕ
-  pub offset : ℕ
+  pub position : ℕ
   pub text : List ℕ
 
 -- what it says of a text that is opened with a size: the tokens up to the first EOF, and the errors
@@ -25,7 +25,7 @@ pub record Row : Type 0 where
   pub errors : List Error
 
 abbrev pub token : ℕ → ℕ → String → Shows
-token kind offset text = record { kind = kind; offset = offset; text = spelled text }
+token kind position text = record { kind = kind; position = position; text = spelled text }
 
 -- an error: its number, and where it is, by offset, line and column
 abbrev pub error : ℕ → ℕ → ℕ → ℕ → Error
@@ -53,7 +53,7 @@ rows =
     sizedRow 3 "`\n" (token STRING 0 "`\n" ∷ token SEMICOLON 2 "" ∷ token EOF 2 "" ∷ []) (error 6 2 2 1 ∷ []) ∷
     []
 
--- what the opening leaves, at base 0: a table of four line starts and a list of four errors, all 0
+-- what the opening leaves, at base 0, where positions are offsets: a table of four line starts and a list of four errors, all 0
 abbrev pub begun : Row → Held
 begun r = record { state = fresh 0 (r .size); table = replicate 4 0; list = replicate 16 0 }
 
@@ -61,9 +61,9 @@ begun r = record { state = fresh 0 (r .size); table = replicate 4 0; list = repl
 abbrev pub areas : Row → List (List ℕ)
 areas r = replicate (length (r .tokens)) (replicate 16 0)
 
--- a token as the table shows it; at base 0 its position is its offset
+-- a token as the table shows it
 abbrev pub shows : Seen → Shows
-shows t = record { kind = t .token .kind; offset = t .token .position; text = t .text .bytes }
+shows t = record { kind = t .token .kind; position = t .token .position; text = t .text .bytes }
 
 abbrev pub All : {A : Type 0} → (A → Type 0) → List A → Type 0
 All P [] = Unit {0}
