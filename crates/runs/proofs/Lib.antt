@@ -8,3 +8,5 @@ pub mod Room
 pub mod Progress
 pub mod Closing
 pub mod Joined
+pub mod Table
+pub mod Example
