@@ -1,12 +1,14 @@
+-- `tokens::listing::list_errors` meets its contract: the loop ends.
+use Prim.Native.Nat.{_≤_, _-_}
 use borrow.Author.Needs.{needs}
 use Rattle.tokens.proofs.listing.list_errors.Statement.{statement}
 use Rattle.tokens.proofs.listing.list_errors.Tie as tie
 
 abbrev Inv-loop : tie.InvT-loop
-Inv-loop state list out₀ waiting at₀ k₀ k-end out at k = ?
+Inv-loop state list out₀ waiting at₀ k₀ k-end out at k = k ≤ k-end
 
 abbrev μ-loop : tie.MeasureT-loop
-μ-loop state list out₀ waiting at₀ k₀ k-end out at k = ?
+μ-loop state list out₀ waiting at₀ k₀ k-end out at k = k-end - k
 
 loop-holds : tie.Need-loop-holds Inv-loop μ-loop
 loop-holds c = search needs

@@ -1,12 +1,17 @@
+-- `tokens::listing::list_tokens` meets its contract: the loop ends, and keeps the lengths of its buffers.
+use Prim.Native.Nat.{_≤_, _-_}
+use mathlib.Core.Path.{_≡_}
 use borrow.Author.Needs.{needs}
+use lib.ListN.{length}
 use Rattle.tokens.proofs.listing.list_tokens.Statement.{statement}
 use Rattle.tokens.proofs.listing.list_tokens.Tie as tie
 
 abbrev Inv-loop : tie.InvT-loop
-Inv-loop src table₀ list₀ area₀ out₀ progress₀ k₀ table list area out progress k = ?
+Inv-loop src table₀ list₀ area₀ out₀ progress₀ k₀ table list area out progress k =
+    (k ≤ 131073) × (length table ≡ length table₀) × (length list ≡ length list₀) × (length area ≡ length area₀)
 
 abbrev μ-loop : tie.MeasureT-loop
-μ-loop src table₀ list₀ area₀ out₀ progress₀ k₀ table list area out progress k = ?
+μ-loop src table₀ list₀ area₀ out₀ progress₀ k₀ table list area out progress k = 131073 - k
 
 new-requires : tie.Need-new-requires Inv-loop μ-loop
 new-requires c κs = search needs
