@@ -17,21 +17,18 @@ struct Progress {
     state: State,
     // how many bytes of output wait
     waiting: usize,
-    // the EOF was listed
-    ended: bool,
-    // the refusal at which the listing stops, or 0
+    // no more is to be listed here: all was, or a refusal ends the listing
+    over: bool,
+    // the number of that refusal, or 0
     refusal: u8,
 }
 
-impl Progress {
-    // Before the EOF, or stopped by a refusal.
-    fn new(state: State, waiting: usize, refusal: u8) -> Progress {
-        Progress {
-            state,
-            waiting,
-            ended: false,
-            refusal,
-        }
+fn over(state: State, waiting: usize, refusal: u8) -> Progress {
+    Progress {
+        state,
+        waiting,
+        over: true,
+        refusal,
     }
 }
 
@@ -50,15 +47,15 @@ fn list_placed<'a>(
     let text = scanner::shown(src, area, token.text, &mut no_text);
     let value = scanner::shown(src, area, token.value, &mut no_value);
     if no_text != 0 {
-        return Progress::new(state, waiting, no_text);
+        return over(state, waiting, no_text);
     }
     if no_value != 0 {
-        return Progress::new(state, waiting, no_value);
+        return over(state, waiting, no_value);
     }
     Progress {
         state,
         waiting: show::token(out, waiting, place, token, text, value),
-        ended: token.kind == token::EOF,
+        over: token.kind == token::EOF,
         refusal: 0,
     }
 }
@@ -76,7 +73,7 @@ fn list_token<'a>(
     let located = scanner::position(state, table, token.position);
     match located {
         Located::At(place) => list_placed(src, area, state, token, place, out, waiting),
-        Located::Refused(number) => Progress::new(state, waiting, number),
+        Located::Refused(number) => over(state, waiting, number),
     }
 }
 
@@ -92,7 +89,7 @@ fn list_next(
 ) -> Progress {
     let scanned = scanner::scan(src, state, table, list, area);
     if scanned.refusal != 0 {
-        return Progress::new(scanned.state, waiting, scanned.refusal);
+        return over(scanned.state, waiting, scanned.refusal);
     }
     list_token(src, area, table, scanned.state, scanned.token, out, waiting)
 }
@@ -106,7 +103,12 @@ fn list_tokens(
     area: &mut [u8],
     out: &mut Buffer,
 ) -> Progress {
-    let mut progress = Progress::new(first, 0, 0);
+    let mut progress = Progress {
+        state: first,
+        waiting: 0,
+        over: false,
+        refusal: 0,
+    };
     for k in 0..MOST_SCANS {
         progress = list_next(
             src,
@@ -117,10 +119,7 @@ fn list_tokens(
             out,
             progress.waiting,
         );
-        if progress.ended {
-            return progress;
-        }
-        if progress.refusal != 0 {
+        if progress.over {
             return progress;
         }
     }
@@ -134,11 +133,11 @@ fn list_errors(state: State, list: &[usize], out: &mut Buffer, waiting: usize) -
         let got = scanner::error(state, list, k);
         match got {
             Got::Found(error) => at = show::error(out, at, error),
-            Got::Nothing => return Progress::new(state, at, 0),
-            Got::Refused(number) => return Progress::new(state, at, number),
+            Got::Nothing => return over(state, at, 0),
+            Got::Refused(number) => return over(state, at, number),
         }
     }
-    Progress::new(state, at, 0)
+    over(state, at, 0)
 }
 
 // Ends a listing with a refusal.
@@ -147,6 +146,7 @@ pub(crate) fn refuse(out: &mut Buffer, waiting: usize, number: u8) {
     output::flush(out, end);
 }
 
+// Lists a text that is open.
 fn list_opened(
     src: &[u8],
     first: State,

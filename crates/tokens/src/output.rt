@@ -1,10 +1,12 @@
-// Output by way of a buffer: its first `waiting` bytes are still to be written. What adds to it answers how many wait then.
+// Output by way of a buffer, whose first `waiting` bytes are still to be written. What adds to it answers how many wait then.
 use libc::STDOUT_FILENO;
 ghost use mathlib.Core.Path.{_≡_};
 ghost use Prim.Native.Nat.{_<_};
 ghost use Rattle.io.specs.Digits.{glyph};
 
-pub(crate) type Buffer = [u8; 4096];
+const ROOM: usize = 4096;
+
+pub(crate) type Buffer = [u8; ROOM];
 
 // Writes what waits, no more than there is.
 pub(crate) fn flush(out: &[u8], waiting: usize) {
@@ -15,9 +17,9 @@ pub(crate) fn flush(out: &[u8], waiting: usize) {
     }
 }
 
-// Adds a byte, behind nothing where the buffer was full.
+// Adds a byte; a full buffer is written first.
 pub(crate) fn byte(out: &mut Buffer, waiting: usize, b: u8) -> usize {
-    if waiting < 4096 {
+    if waiting < ROOM {
         out[waiting] = b;
         return waiting + 1;
     }

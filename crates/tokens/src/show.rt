@@ -67,7 +67,7 @@ pub(crate) fn error(out: &mut Buffer, waiting: usize, error: Error) -> usize {
 }
 
 // A letter and a number.
-fn total(out: &mut Buffer, waiting: usize, letter: u8, n: usize) -> usize {
+fn numbered(out: &mut Buffer, waiting: usize, letter: u8, n: usize) -> usize {
     let mut end = output::byte(out, waiting, letter);
     end = output::byte(out, end, b' ');
     end = output::decimal(out, end, n);
@@ -75,9 +75,9 @@ fn total(out: &mut Buffer, waiting: usize, letter: u8, n: usize) -> usize {
 }
 
 pub(crate) fn line_count(out: &mut Buffer, waiting: usize, lines: usize) -> usize {
-    total(out, waiting, b'L', lines)
+    numbered(out, waiting, b'L', lines)
 }
 
 pub(crate) fn refusal(out: &mut Buffer, waiting: usize, number: u8) -> usize {
-    total(out, waiting, b'R', number as usize)
+    numbered(out, waiting, b'R', number as usize)
 }
