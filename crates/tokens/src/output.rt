@@ -1,0 +1,75 @@
+// Output by way of a buffer, whose first `waiting` bytes are still to be written. What adds to it answers how many wait then.
+use libc::STDOUT_FILENO;
+ghost use mathlib.Core.Path.{_≡_};
+ghost use Prim.Native.Nat.{_<_};
+ghost use Rattle.io.specs.Digits.{glyph};
+
+const ROOM: usize = 4096;
+
+pub(crate) type Buffer = [u8; ROOM];
+
+// Writes what waits, no more than there is.
+pub(crate) fn flush(out: &[u8], waiting: usize) {
+    if waiting < out.len() {
+        io::write_all(STDOUT_FILENO, &out[..waiting]);
+    } else {
+        io::write_all(STDOUT_FILENO, out);
+    }
+}
+
+// Adds a byte; a full buffer is written first.
+pub(crate) fn byte(out: &mut Buffer, waiting: usize, b: u8) -> usize {
+    if waiting < ROOM {
+        out[waiting] = b;
+        return waiting + 1;
+    }
+    flush(out, waiting);
+    out[0] = b;
+    1
+}
+
+pub(crate) fn bytes(out: &mut Buffer, waiting: usize, s: &[u8]) -> usize {
+    let mut end = waiting;
+    for k in 0..s.len() {
+        end = byte(out, end, s[k]);
+    }
+    end
+}
+
+pub(crate) fn decimal(out: &mut Buffer, waiting: usize, n: usize) -> usize {
+    let mut digits = [0u8; 20];
+    let k = io::decimal(n as u64, &mut digits);
+    bytes(out, waiting, &digits[..k])
+}
+
+pub(crate) fn hex(out: &mut Buffer, waiting: usize, n: u32) -> usize {
+    let mut digits = [0u8; 16];
+    let k = io::hex(n as u64, 1, &mut digits);
+    bytes(out, waiting, &digits[..k])
+}
+
+// A hexadecimal digit in lower case.
+fn digit(d: u8) -> u8
+    requires { ⌜ d < 16 ⌝ }
+    ensures { λ r. ⌜ r ≡ glyph d ⌝ }
+{
+    if d < 10 { 48 + d } else { 87 + d }
+}
+
+// Adds a byte by its two hexadecimal digits.
+fn hex_byte(out: &mut Buffer, waiting: usize, b: u8) -> usize {
+    let end = byte(out, waiting, digit(b / 16));
+    byte(out, end, digit(b % 16))
+}
+
+// Adds bytes in hexadecimal; `-` for none.
+pub(crate) fn hex_bytes(out: &mut Buffer, waiting: usize, s: &[u8]) -> usize {
+    if s.len() == 0 {
+        return byte(out, waiting, b'-');
+    }
+    let mut end = waiting;
+    for k in 0..s.len() {
+        end = hex_byte(out, end, s[k]);
+    }
+    end
+}

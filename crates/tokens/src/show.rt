@@ -1,0 +1,83 @@
+// The lines of a listing. Each answers how many bytes of output wait then.
+use crate::output;
+use crate::output::Buffer;
+use errors::Error;
+use position::Position;
+use scanner::Token;
+
+// A place, and a space behind each of its numbers.
+fn place(out: &mut Buffer, waiting: usize, at: Position) -> usize {
+    let mut end = output::decimal(out, waiting, at.offset);
+    end = output::byte(out, end, b' ');
+    end = output::decimal(out, end, at.line);
+    end = output::byte(out, end, b' ');
+    end = output::decimal(out, end, at.column);
+    output::byte(out, end, b' ')
+}
+
+// A token's text; a written semicolon, which has none as no operator has, shows its character.
+fn text_of(out: &mut Buffer, waiting: usize, token: Token, text: &[u8]) -> usize {
+    if token.kind == token::SEMICOLON {
+        if !token.inserted {
+            return output::hex_bytes(out, waiting, b";");
+        }
+    }
+    output::hex_bytes(out, waiting, text)
+}
+
+// What stands behind a token's text: the value of a STRING, the code point of a CHAR.
+fn value_of(out: &mut Buffer, waiting: usize, token: Token, value: &[u8]) -> usize {
+    if token.kind == token::STRING {
+        let end = output::byte(out, waiting, b' ');
+        return output::hex_bytes(out, end, value);
+    }
+    if token.kind == token::CHAR {
+        let end = output::byte(out, waiting, b' ');
+        return output::hex(out, end, token.code);
+    }
+    waiting
+}
+
+pub(crate) fn token(
+    out: &mut Buffer,
+    waiting: usize,
+    at: Position,
+    token: Token,
+    text: &[u8],
+    value: &[u8],
+) -> usize {
+    let mut end = place(out, waiting, at);
+    end = output::decimal(out, end, token.kind as usize);
+    end = output::byte(out, end, b' ');
+    end = text_of(out, end, token, text);
+    end = value_of(out, end, token, value);
+    output::byte(out, end, b'\n')
+}
+
+pub(crate) fn error(out: &mut Buffer, waiting: usize, error: Error) -> usize {
+    let at = Position {
+        offset: error.offset,
+        line: error.line,
+        column: error.column,
+    };
+    let mut end = output::bytes(out, waiting, b"E ");
+    end = place(out, end, at);
+    end = output::decimal(out, end, error.number);
+    output::byte(out, end, b'\n')
+}
+
+// A letter and a number.
+fn numbered(out: &mut Buffer, waiting: usize, letter: u8, n: usize) -> usize {
+    let mut end = output::byte(out, waiting, letter);
+    end = output::byte(out, end, b' ');
+    end = output::decimal(out, end, n);
+    output::byte(out, end, b'\n')
+}
+
+pub(crate) fn line_count(out: &mut Buffer, waiting: usize, lines: usize) -> usize {
+    numbered(out, waiting, b'L', lines)
+}
+
+pub(crate) fn refusal(out: &mut Buffer, waiting: usize, number: u8) -> usize {
+    numbered(out, waiting, b'R', number as usize)
+}
