@@ -161,7 +161,7 @@ fn show_part<'a>(registers: &[usize], source: &'a [u8], area: &'a [u8], part: Pa
 }
 
 // A token: its kind, its position, its text and its value.
-fn show_token(registers: &[usize], source: &[u8], area: &[u8], token: Token) {
+fn show_token<'a>(registers: &[usize], source: &'a [u8], area: &'a [u8], token: Token) {
     let text = token.text;
     let value = token.value;
     show::text(b" token");
@@ -172,12 +172,12 @@ fn show_token(registers: &[usize], source: &[u8], area: &[u8], token: Token) {
 }
 
 // C: a scan.
-fn scan(
+fn scan<'a>(
     registers: &mut [usize],
-    source: &[u8],
+    source: &'a [u8],
     table: &mut [usize],
     list: &mut [usize],
-    area: &mut [u8],
+    area: &'a mut [u8],
 ) {
     let was = sums_of(table, list, area);
     let scanned = scan_lent(registers, source, table, list, area);
@@ -260,7 +260,7 @@ fn error(registers: &[usize], list: &[usize]) {
 }
 
 // X, Y: the part from i to j of the source, of the area.
-fn part(registers: &[usize], source: &[u8], area: &[u8], of_area: bool) {
+fn part<'a>(registers: &[usize], source: &'a [u8], area: &'a [u8], of_area: bool) {
     let part = Part {
         area: of_area,
         start: get(registers, b'i'),
@@ -270,13 +270,13 @@ fn part(registers: &[usize], source: &[u8], area: &[u8], of_area: bool) {
 }
 
 // T sets start i of the table to n; a byte that is no call does nothing.
-pub(crate) fn call(
+pub(crate) fn call<'a>(
     letter: u8,
     registers: &mut [usize],
-    source: &[u8],
+    source: &'a [u8],
     table: &mut [usize],
     list: &mut [usize],
-    area: &mut [u8],
+    area: &'a mut [u8],
 ) {
     match letter {
         b'O' => open(registers, source, table),

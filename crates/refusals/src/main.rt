@@ -51,13 +51,13 @@ fn read_source(byte: u8, registers: &mut [usize], source: &mut [u8]) {
     }
 }
 
-fn read_word(
+fn read_word<'a>(
     byte: u8,
     registers: &mut [usize],
-    source: &[u8],
+    source: &'a [u8],
     table: &mut [usize],
     list: &mut [usize],
-    area: &mut [u8],
+    area: &'a mut [u8],
 ) {
     match byte {
         b'\n' => {
@@ -77,13 +77,13 @@ fn read_word(
     }
 }
 
-fn read_byte(
+fn read_byte<'a>(
     byte: u8,
     registers: &mut [usize],
-    source: &mut [u8],
+    source: &'a mut [u8],
     table: &mut [usize],
     list: &mut [usize],
-    area: &mut [u8],
+    area: &'a mut [u8],
 ) {
     let mode = get(registers, MODE);
     if mode == LABEL {
@@ -95,13 +95,13 @@ fn read_byte(
     }
 }
 
-fn read_cases(
+fn read_cases<'a>(
     cases: &[u8],
     registers: &mut [usize],
-    source: &mut [u8],
+    source: &'a mut [u8],
     table: &mut [usize],
     list: &mut [usize],
-    area: &mut [u8],
+    area: &'a mut [u8],
 ) {
     let mut at: usize = 0;
     while at < cases.len() {

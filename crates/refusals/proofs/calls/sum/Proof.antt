@@ -14,6 +14,9 @@ abbrev μ-loop : tie.MeasureT-loop
 loop-holds : tie.Need-loop-holds Inv-loop μ-loop
 loop-holds c = search needs
 
+mul-add : tie.Need-mul-add Inv-loop μ-loop
+mul-add c = search needs
+
 shared-slice-read-add : tie.Need-shared-slice-read-add Inv-loop μ-loop
 shared-slice-read-add c = search needs
 
@@ -33,4 +36,4 @@ returns : tie.Need-returns Inv-loop μ-loop
 returns c = search needs
 
 pub sum-spec : {M : Type 1} → statement M
-sum-spec = tie.close (tie.spec Inv-loop μ-loop loop-holds shared-slice-read-add add-requires add-i loop-less loop-again returns)
+sum-spec = tie.close (tie.spec Inv-loop μ-loop loop-holds mul-add shared-slice-read-add add-requires add-i loop-less loop-again returns)
