@@ -4,30 +4,35 @@
 // A case starts with the registers of `fresh`. Its words:
 // - a small letter and a number: the register with that letter, see `registers`
 // - bytes between two `'`: the source; ; stands for a line feed, ^ for CR and ! for the byte FF
-// - a capital: a call, see `calls`
+// - a capital: a call, see `calls`; it is lent as much of each buffer as the registers say, see `lend`
 mod calls;
+mod lend;
 mod registers;
 mod show;
 
 use libc::STDIN_FILENO;
-use registers::LETTER;
 use registers::MODE;
-use registers::get;
-use registers::set;
 
 // The modes: what a byte belongs to.
 const LABEL: usize = 0;
 
 const WORDS: usize = 1;
 
-const SOURCE: usize = 2;
+const TEXT: usize = 2;
 
-fn read_label(byte: u8, registers: &mut [usize], table: &mut [usize]) {
+// The first line starts at 0.
+fn clear_first(table: &mut [usize]) {
+    if table.len() > 0 {
+        table[0] = 0;
+    }
+}
+
+fn read_label(byte: u8, registers: &mut [usize; 128], table: &mut [usize]) {
     show::byte(byte);
     if byte == b':' {
         registers::fresh(registers);
-        calls::start_line(table, 0, 0);
-        set(registers, MODE, WORDS);
+        clear_first(table);
+        registers[MODE] = WORDS;
     }
 }
 
@@ -41,19 +46,19 @@ fn meant(byte: u8) -> u8 {
     }
 }
 
-fn read_source(byte: u8, registers: &mut [usize], source: &mut [u8]) {
-    let length = get(registers, b's');
+fn read_source(byte: u8, registers: &mut [usize; 128], source: &mut [u8]) {
+    let length = registers[registers::SOURCE];
     if byte == b'\'' {
-        set(registers, MODE, WORDS);
+        registers[MODE] = WORDS;
     } else if length < source.len() {
         source[length] = meant(byte);
-        set(registers, b's', length + 1);
+        registers[registers::SOURCE] = length + 1;
     }
 }
 
 fn read_word<'a>(
     byte: u8,
-    registers: &mut [usize],
+    registers: &mut [usize; 128],
     source: &'a [u8],
     table: &mut [usize],
     list: &mut [usize],
@@ -62,33 +67,30 @@ fn read_word<'a>(
     match byte {
         b'\n' => {
             show::byte(byte);
-            set(registers, MODE, LABEL);
+            registers[MODE] = LABEL;
         }
         b'\'' => {
-            set(registers, b's', 0);
-            set(registers, MODE, SOURCE);
+            registers[registers::SOURCE] = 0;
+            registers[MODE] = TEXT;
         }
         b'0'..=b'9' => registers::add_digit(registers, byte),
-        b'a'..=b'z' => {
-            set(registers, LETTER, byte as usize);
-            set(registers, byte, 0);
-        }
-        _ => calls::call(byte, registers, source, table, list, area),
+        b'a'..=b'z' => registers::start_number(registers, byte),
+        _ => lend::call(byte, registers, source, table, list, area),
     }
 }
 
 fn read_byte<'a>(
     byte: u8,
-    registers: &mut [usize],
+    registers: &mut [usize; 128],
     source: &'a mut [u8],
     table: &mut [usize],
     list: &mut [usize],
     area: &'a mut [u8],
 ) {
-    let mode = get(registers, MODE);
+    let mode = registers[MODE];
     if mode == LABEL {
         read_label(byte, registers, table);
-    } else if mode == SOURCE {
+    } else if mode == TEXT {
         read_source(byte, registers, source);
     } else {
         read_word(byte, registers, source, table, list, area);
@@ -97,7 +99,7 @@ fn read_byte<'a>(
 
 fn read_cases<'a>(
     cases: &[u8],
-    registers: &mut [usize],
+    registers: &mut [usize; 128],
     source: &'a mut [u8],
     table: &mut [usize],
     list: &mut [usize],

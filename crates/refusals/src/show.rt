@@ -15,6 +15,11 @@ pub(crate) fn number(n: usize) {
     io::print_decimal(STDOUT_FILENO, n as u64);
 }
 
+pub(crate) fn answer(word: &[u8], n: usize) {
+    text(word);
+    number(n);
+}
+
 // Bytes in hexadecimal, - where there are none.
 pub(crate) fn bytes(s: &[u8]) {
     byte(b' ');
@@ -33,14 +38,12 @@ fn wide(b: u8) -> u64 {
 }
 
 pub(crate) fn refused(n: u8) {
-    text(b" refused");
-    number(n as usize);
+    answer(b" refused", n as usize);
 }
 
-// A call that was refused, and whether all that it was lent is as it was.
-pub(crate) fn left(n: u8, kept: bool) {
-    refused(n);
-    if kept {
+// Whether a refused call left all that it was lent as it was.
+pub(crate) fn kept(yes: bool) {
+    if yes {
         text(b" kept");
     } else {
         text(b" changed");

@@ -8,7 +8,7 @@ use Rattle.refusals.proofs.read_cases.Tie as tie
 
 abbrev Inv-loop : tie.InvT-loop
 Inv-loop cases registers₀ source₀ table₀ list₀ area₀ at₀ registers source table list area at =
-    (at ≤ length cases) × (length registers ≡ length registers₀) × (length source ≡ length source₀) × (length table ≡ length table₀)
+    (at ≤ length cases) × (length source ≡ length source₀) × (length table ≡ length table₀)
     × (length list ≡ length list₀) × (length area ≡ length area₀)
 
 abbrev μ-loop : tie.MeasureT-loop
@@ -44,9 +44,6 @@ same-length-3 c = search needs
 same-length-4 : tie.Need-same-length-4 Inv-loop μ-loop
 same-length-4 c = search needs
 
-same-length-5 : tie.Need-same-length-5 Inv-loop μ-loop
-same-length-5 c = search needs
-
 returns : tie.Need-returns Inv-loop μ-loop
 returns c = search needs
 
@@ -66,5 +63,4 @@ read-cases-spec =
     same-length-2
     same-length-3
     same-length-4
-    same-length-5
     returns)

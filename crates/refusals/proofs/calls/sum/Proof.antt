@@ -6,10 +6,10 @@ use Rattle.refusals.proofs.calls.sum.Statement.{statement}
 use Rattle.refusals.proofs.calls.sum.Tie as tie
 
 abbrev Inv-loop : tie.InvT-loop
-Inv-loop numbers total₀ i₀ total i = i ≤ length numbers
+Inv-loop first numbers total₀ i₀ total i = i ≤ length numbers
 
 abbrev μ-loop : tie.MeasureT-loop
-μ-loop numbers total₀ i₀ total i = length numbers - i
+μ-loop first numbers total₀ i₀ total i = length numbers - i
 
 loop-holds : tie.Need-loop-holds Inv-loop μ-loop
 loop-holds c = search needs

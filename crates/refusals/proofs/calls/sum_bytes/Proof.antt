@@ -6,10 +6,10 @@ use Rattle.refusals.proofs.calls.sum_bytes.Statement.{statement}
 use Rattle.refusals.proofs.calls.sum_bytes.Tie as tie
 
 abbrev Inv-loop : tie.InvT-loop
-Inv-loop bytes total₀ i₀ total i = i ≤ length bytes
+Inv-loop first bytes total₀ i₀ total i = i ≤ length bytes
 
 abbrev μ-loop : tie.MeasureT-loop
-μ-loop bytes total₀ i₀ total i = length bytes - i
+μ-loop first bytes total₀ i₀ total i = length bytes - i
 
 loop-holds : tie.Need-loop-holds Inv-loop μ-loop
 loop-holds c = search needs
