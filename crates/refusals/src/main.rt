@@ -56,14 +56,8 @@ fn read_source(byte: u8, registers: &mut [usize; 128], source: &mut [u8]) {
     }
 }
 
-fn read_word<'a>(
-    byte: u8,
-    registers: &mut [usize; 128],
-    source: &'a [u8],
-    table: &mut [usize],
-    list: &mut [usize],
-    area: &'a mut [u8],
-) {
+// Reads a byte of the words, and answers the call that it asks for, or 0.
+fn read_word(byte: u8, registers: &mut [usize; 128]) -> u8 {
     match byte {
         b'\n' => {
             show::byte(byte);
@@ -75,26 +69,22 @@ fn read_word<'a>(
         }
         b'0'..=b'9' => registers::add_digit(registers, byte),
         b'a'..=b'z' => registers::start_number(registers, byte),
-        _ => lend::call(byte, registers, source, table, list, area),
+        _ => return byte,
     }
+    0
 }
 
-fn read_byte<'a>(
-    byte: u8,
-    registers: &mut [usize; 128],
-    source: &'a mut [u8],
-    table: &mut [usize],
-    list: &mut [usize],
-    area: &'a mut [u8],
-) {
+fn read_byte(byte: u8, registers: &mut [usize; 128], source: &mut [u8], table: &mut [usize]) -> u8 {
     let mode = registers[MODE];
-    if mode == LABEL {
-        read_label(byte, registers, table);
-    } else if mode == TEXT {
+    if mode == WORDS {
+        return read_word(byte, registers);
+    }
+    if mode == TEXT {
         read_source(byte, registers, source);
     } else {
-        read_word(byte, registers, source, table, list, area);
+        read_label(byte, registers, table);
     }
+    0
 }
 
 fn read_cases<'a>(
@@ -107,7 +97,8 @@ fn read_cases<'a>(
 ) {
     let mut at: usize = 0;
     while at < cases.len() {
-        read_byte(cases[at], registers, source, table, list, area);
+        let letter = read_byte(cases[at], registers, source, table);
+        lend::call(letter, registers, source, table, list, area);
         at += 1;
     }
 }

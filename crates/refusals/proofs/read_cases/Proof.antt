@@ -23,6 +23,9 @@ shared-slice-read-read-byte c = search needs
 read-byte-requires : tie.Need-read-byte-requires Inv-loop μ-loop
 read-byte-requires c κs = search needs
 
+call-requires : tie.Need-call-requires Inv-loop μ-loop
+call-requires c κs = search needs
+
 add-at : tie.Need-add-at Inv-loop μ-loop
 add-at c = search needs
 
@@ -56,6 +59,7 @@ read-cases-spec =
     loop-holds
     shared-slice-read-read-byte
     read-byte-requires
+    call-requires
     add-at
     loop-less
     loop-again
