@@ -1,0 +1,15 @@
+-- `refusals::lend::of_bytes` meets its contract: so many bytes are there.
+use mathlib.Core.Path.{sym}
+use borrow.Author.Needs.{needs}
+use lib.Seq.{length-take-le}
+use Rattle.refusals.proofs.lend.of_bytes.Statement.{statement}
+use Rattle.refusals.proofs.lend.of_bytes.Tie as tie
+
+returns : tie.Need-returns
+returns c = (search needs, sym (length-take-le _ _ (search needs)))
+
+returns-2 : tie.Need-returns-2
+returns-2 c = (search needs, sym (length-take-le _ _ (search needs)))
+
+pub of-bytes-spec : {M : Type 1} → statement M
+of-bytes-spec = tie.close (tie.spec returns returns-2)
