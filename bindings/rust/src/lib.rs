@@ -35,12 +35,14 @@ mod numbers;
 mod refusal;
 mod scanner;
 mod token;
+mod tokens;
 
 pub use error::{Error, Position};
 pub use kind::{Kind, NoKind};
 pub use refusal::Refusal;
-pub use scanner::{Scanner, Tokens};
-pub use token::{Lent, Pos, Token};
+pub use scanner::Scanner;
+pub use token::{Pos, Token};
+pub use tokens::Tokens;
 
 /// The example of the README, which runs with the tests.
 #[cfg(doctest)]

@@ -100,8 +100,14 @@ mod tests {
         assert_eq!(with(0, 4).text().of(b"abc"), Ok(&b"bc"[..]));
         assert_eq!(with(0, 4).text().of(b"ab"), Err(Refusal::DoesNotFit));
         assert_eq!(with(5, 4).text().of(b"abc"), Err(Refusal::DoesNotFit));
-        assert_eq!(with(5, usize::MAX).text().of(b"abc"), Err(Refusal::DoesNotFit));
-        assert_eq!(with(9, usize::MAX).value().of(b"abc"), Err(Refusal::DoesNotFit));
+        assert_eq!(
+            with(5, usize::MAX).text().of(b"abc"),
+            Err(Refusal::DoesNotFit)
+        );
+        assert_eq!(
+            with(9, usize::MAX).value().of(b"abc"),
+            Err(Refusal::DoesNotFit)
+        );
         assert_eq!(with(9, 2).value().of(b"abc"), Ok(&b""[..]));
     }
 }

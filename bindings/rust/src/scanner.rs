@@ -3,7 +3,7 @@
 use crate::buffers::Buffers;
 use crate::ffi;
 use crate::numbers::{Numbers, Part};
-use crate::{Error, Kind, Lent, Pos, Position, Refusal, Token};
+use crate::{Error, Kind, Pos, Position, Refusal, Token, Tokens};
 use std::borrow::Cow;
 
 /// Reads a source token by token.
@@ -66,39 +66,67 @@ impl<'src> Scanner<'src> {
     /// EOF, again and again.
     #[inline]
     pub fn scan(&mut self) -> Result<(Token<'src>, Pos), Refusal> {
-        self.advance()?;
         let token = Token {
-            kind: self.token.kind()?,
-            inserted: self.token.inserted(),
+            kind: self.advance()?,
+            inserted: self.inserted(),
             text: self.kept(self.token.text())?,
             value: self.kept(self.token.value())?,
-            code: self.token.code()?,
+            code: self.code()?,
         };
-        Ok((token, self.token.pos()))
+        Ok((token, self.pos()))
     }
 
-    /// Scans the next token, and lends its text and value: nothing is copied.
+    /// Scans the next token, and gives its kind alone. The rest of it is asked for after that: [`Scanner::pos`],
+    /// [`Scanner::text`], [`Scanner::value`], [`Scanner::code`], [`Scanner::inserted`]. Nothing is ever copied.
     #[inline]
-    pub fn scan_lent(&mut self) -> Result<Lent<'_>, Refusal> {
-        self.advance()?;
-        Ok(Lent {
-            kind: self.token.kind()?,
-            inserted: self.token.inserted(),
-            pos: self.token.pos(),
-            text: self.lent(self.token.text())?,
-            value: self.lent(self.token.value())?,
-            code: self.token.code()?,
-        })
+    pub fn advance(&mut self) -> Result<Kind, Refusal> {
+        match self.call() {
+            0 => {}
+            number => self.repeat(number)?,
+        }
+        self.token.kind()
+    }
+
+    /// The position of the last token's first character.
+    #[inline]
+    pub fn pos(&self) -> Pos {
+        self.token.pos()
+    }
+
+    /// The text of the last token, as [`Token::text`].
+    #[inline]
+    pub fn text(&self) -> Result<&[u8], Refusal> {
+        self.lent(self.token.text())
+    }
+
+    /// The value of the last token, as [`Token::value`].
+    #[inline]
+    pub fn value(&self) -> Result<&[u8], Refusal> {
+        self.lent(self.token.value())
+    }
+
+    /// The character of the last token, as [`Token::code`].
+    #[inline]
+    pub fn code(&self) -> Result<Option<char>, Refusal> {
+        self.token.code()
+    }
+
+    /// Whether the last token is a semicolon that does not stand in the source.
+    #[inline]
+    pub fn inserted(&self) -> bool {
+        self.token.inserted()
     }
 
     /// The tokens that are left, each with its position, up to EOF, which is not among them.
     pub fn tokens(&mut self) -> Tokens<'_, 'src> {
-        Tokens { scanner: self, over: false }
+        Tokens::new(self)
     }
 
     /// The errors of what was scanned, in order.
     pub fn errors(&self) -> Result<Vec<Error>, Refusal> {
-        (0..self.error_count()).map(|index| self.error(index)).collect()
+        (0..self.error_count())
+            .map(|index| self.error(index))
+            .collect()
     }
 
     /// How many errors there are so far.
@@ -109,15 +137,29 @@ impl<'src> Scanner<'src> {
     /// The offset, line and column of a position. Lines are known as far as the source was scanned.
     pub fn position(&self, pos: Pos) -> Result<Position, Refusal> {
         let mut answer = [0; 3];
-        given(ffi::position(&self.state, &self.buffers.table, pos, &mut answer))?;
+        given(ffi::position(
+            &self.state,
+            &self.buffers.table,
+            pos,
+            &mut answer,
+        ))?;
         let [offset, line, column] = answer;
-        Ok(Position { offset, line, column })
+        Ok(Position {
+            offset,
+            line,
+            column,
+        })
     }
 
     /// The position at which a line, counted from 1, starts.
     pub fn line_start(&self, line: usize) -> Result<Pos, Refusal> {
         let mut answer = 0;
-        given(ffi::line_start(&self.state, &self.buffers.table, line, &mut answer))?;
+        given(ffi::line_start(
+            &self.state,
+            &self.buffers.table,
+            line,
+            &mut answer,
+        ))?;
         Ok(answer)
     }
 
@@ -149,22 +191,22 @@ impl<'src> Scanner<'src> {
     /// One call of the library.
     #[inline]
     fn call(&mut self) -> u8 {
-        let Buffers { table, list, area, .. } = &mut self.buffers;
-        ffi::scan(self.source, &mut self.state, table, list, area, &mut self.token.0)
+        let Buffers {
+            table, list, area, ..
+        } = &mut self.buffers;
+        ffi::scan(
+            self.source,
+            &mut self.state,
+            table,
+            list,
+            area,
+            &mut self.token.0,
+        )
     }
 
-    /// Scans the next token into its numbers.
-    #[inline]
-    fn advance(&mut self) -> Result<(), Refusal> {
-        match self.call() {
-            0 => Ok(()),
-            number => self.advance_with_room(number),
-        }
-    }
-
-    /// Repeats a refused scan with larger buffers.
+    /// Repeats a refused call with larger buffers.
     #[cold]
-    fn advance_with_room(&mut self, mut number: u8) -> Result<(), Refusal> {
+    fn repeat(&mut self, mut number: u8) -> Result<(), Refusal> {
         while number != 0 {
             self.buffers.grow(Refusal::of(number, 0))?;
             number = self.call();
@@ -184,12 +226,21 @@ impl<'src> Scanner<'src> {
     /// A text or value where it stands.
     #[inline]
     fn lent(&self, part: Part) -> Result<&[u8], Refusal> {
-        part.of(if part.in_area { &self.buffers.area } else { self.source })
+        part.of(if part.in_area {
+            &self.buffers.area
+        } else {
+            self.source
+        })
     }
 
     fn error(&self, index: usize) -> Result<Error, Refusal> {
         let mut answer = [0; 4];
-        given(ffi::error(&self.state, &self.buffers.list, index, &mut answer))?;
+        given(ffi::error(
+            &self.state,
+            &self.buffers.list,
+            index,
+            &mut answer,
+        ))?;
         Error::of(answer).ok_or(Refusal::DoesNotFit)
     }
 }
@@ -206,29 +257,3 @@ fn given(number: u8) -> Result<(), Refusal> {
         _ => Err(Refusal::of(number, 0)),
     }
 }
-
-/// The tokens of a scanner up to EOF; made by [`Scanner::tokens`]. It ends behind a refusal.
-#[derive(Debug)]
-pub struct Tokens<'a, 'src> {
-    scanner: &'a mut Scanner<'src>,
-    over: bool,
-}
-
-impl<'src> Iterator for Tokens<'_, 'src> {
-    type Item = Result<(Token<'src>, Pos), Refusal>;
-
-    fn next(&mut self) -> Option<Self::Item> {
-        if self.over {
-            return None;
-        }
-        let scanned = self.scanner.scan();
-        let at_end = matches!(&scanned, Ok((token, _)) if token.kind == Kind::Eof);
-        self.over = at_end || scanned.is_err();
-        if at_end {
-            return None;
-        }
-        Some(scanned)
-    }
-}
-
-impl std::iter::FusedIterator for Tokens<'_, '_> {}

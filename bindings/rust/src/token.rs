@@ -1,4 +1,4 @@
-//! Tokens, with bytes of their own or lent ones.
+//! Tokens.
 
 use crate::Kind;
 use std::borrow::Cow;
@@ -19,22 +19,5 @@ pub struct Token<'src> {
     /// The value of a string, its escapes read; of other tokens none.
     pub value: Cow<'src, [u8]>,
     /// The character that a character literal means; of other tokens none.
-    pub code: Option<char>,
-}
-
-/// A token whose bytes are lent up to the next scan, so that none is copied.
-#[derive(Clone, Copy, Debug, PartialEq, Eq)]
-pub struct Lent<'a> {
-    /// What it is.
-    pub kind: Kind,
-    /// Whether it is a semicolon that does not stand in the source.
-    pub inserted: bool,
-    /// Where its first character stands.
-    pub pos: Pos,
-    /// As [`Token::text`].
-    pub text: &'a [u8],
-    /// As [`Token::value`].
-    pub value: &'a [u8],
-    /// As [`Token::code`].
     pub code: Option<char>,
 }

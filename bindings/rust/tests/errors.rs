@@ -27,7 +27,13 @@ fn each_number() {
 fn in_order_with_their_places() {
     let found = errors(b"08\n\n  '\n");
     let shown: Vec<_> = found.iter().map(Error::to_string).collect();
-    assert_eq!(shown, ["1:2: bad octal number", "3:4: the string or character is not closed"]);
+    assert_eq!(
+        shown,
+        [
+            "1:2: bad octal number",
+            "3:4: the string or character is not closed"
+        ]
+    );
     assert_eq!((found[1].position.offset, found[1].number), (7, 8));
 }
 

@@ -7,15 +7,19 @@ fn first(source: &[u8]) -> Token<'_> {
     Scanner::new(source).unwrap().scan().unwrap().0
 }
 
-fn is_borrowed(bytes: &Cow<[u8]>) -> bool {
-    matches!(bytes, Cow::Borrowed(_))
+/// Whether a token's text, and its value, are parts of the source.
+fn borrowed(token: &Token) -> (bool, bool) {
+    let text = matches!(token.text, Cow::Borrowed(_));
+    (text, matches!(token.value, Cow::Borrowed(_)))
 }
 
 #[test]
 fn plain_texts_are_borrowed() {
-    for source in ["name", "12", "\"ab\"", "`ab`", "// c\n", "/* c */", "'a'", "#"] {
+    for source in [
+        "name", "12", "\"ab\"", "`ab`", "// c\n", "/* c */", "'a'", "#",
+    ] {
         let token = first(source.as_bytes());
-        assert!(is_borrowed(&token.text) && is_borrowed(&token.value), "{source}");
+        assert_eq!(borrowed(&token), (true, true), "{source}");
         assert_eq!(token.text, source.as_bytes());
     }
     assert_eq!(first(b"\"ab\"").value, &b"ab"[..]);
@@ -24,12 +28,13 @@ fn plain_texts_are_borrowed() {
 #[test]
 fn changed_texts_are_copied() {
     let token = first(b"017");
-    assert!(!is_borrowed(&token.text));
-    assert_eq!(token.text, &b"0o17"[..]);
+    assert_eq!(borrowed(&token), (false, true));
+    assert_eq!(*token.text, *b"0o17");
     let token = first(b"\"a\\n\"");
-    assert!(is_borrowed(&token.text) && !is_borrowed(&token.value));
-    assert_eq!(token.value, &b"a\n"[..]);
+    assert_eq!(borrowed(&token), (true, false));
+    assert_eq!(*token.value, *b"a\n");
     let token = first(b"`a\r\n`");
+    assert_eq!(borrowed(&token), (false, false));
     assert_eq!((&*token.text, &*token.value), (&b"`a\n`"[..], &b"a\n"[..]));
 }
 
@@ -55,26 +60,43 @@ fn only_characters_have_a_code() {
 fn inserted_semicolons() {
     let mut scanner = Scanner::new(b"x;y\n").unwrap();
     let scanned: Vec<_> = scanner.tokens().map(Result::unwrap).collect();
-    let kinds: Vec<_> = scanned.iter().map(|(token, _)| (token.kind, token.inserted)).collect();
+    let kinds: Vec<_> = scanned
+        .iter()
+        .map(|(token, _)| (token.kind, token.inserted))
+        .collect();
     let semicolon = Kind::Semicolon;
-    assert_eq!(kinds, [(Kind::Ident, false), (semicolon, false), (Kind::Ident, false), (semicolon, true)]);
+    assert_eq!(
+        kinds,
+        [
+            (Kind::Ident, false),
+            (semicolon, false),
+            (Kind::Ident, false),
+            (semicolon, true)
+        ]
+    );
 }
 
 #[test]
-fn lent_tokens_are_the_same_ones() {
+fn advancing_gives_the_same_tokens() {
     let source = b"a := 017 + 'x' // c\r\n\"\\n\" `\r` /*";
-    let mut kept = Scanner::new(source).unwrap();
-    let mut lent = Scanner::new(source).unwrap();
+    let mut one = Scanner::new(source).unwrap();
+    let mut other = Scanner::new(source).unwrap();
     loop {
-        let (token, pos) = kept.scan().unwrap();
-        let other = lent.scan_lent().unwrap();
-        assert_eq!((token.kind, token.inserted, pos), (other.kind, other.inserted, other.pos));
-        assert_eq!((&*token.text, &*token.value, token.code), (other.text, other.value, other.code));
+        let (token, pos) = one.scan().unwrap();
+        assert_eq!(
+            (Ok(token.kind), token.inserted, pos),
+            (other.advance(), other.inserted(), other.pos())
+        );
+        assert_eq!(
+            (Ok(&*token.text), Ok(&*token.value)),
+            (other.text(), other.value())
+        );
+        assert_eq!(Ok(token.code), other.code());
         if token.kind == Kind::Eof {
             break;
         }
     }
-    assert_eq!(kept.errors(), lent.errors());
+    assert_eq!(one.errors(), other.errors());
 }
 
 #[test]
@@ -84,7 +106,15 @@ fn kinds_and_numbers() {
         assert_eq!(kind as usize, number);
     }
     assert_eq!(Kind::try_from(82), Err(NoKind(82)));
-    assert_eq!((Kind::Eof as u8, Kind::Ident as u8, Kind::Semicolon as u8, Kind::Var as u8), (2, 4, 55, 81));
+    assert_eq!(
+        (
+            Kind::Eof as u8,
+            Kind::Ident as u8,
+            Kind::Semicolon as u8,
+            Kind::Var as u8
+        ),
+        (2, 4, 55, 81)
+    );
 }
 
 /// Each operator and keyword is the token that its name is.

@@ -12,7 +12,13 @@ fn hex(bytes: &[u8]) -> String {
 fn line(scanner: &Scanner, token: &Token, pos: Pos) -> Result<String, Refusal> {
     let at = scanner.position(pos)?;
     let kind = token.kind as u8;
-    let mut line = format!("{} {} {} {kind} {}", at.offset, at.line, at.column, hex(&token.text));
+    let mut line = format!(
+        "{} {} {} {kind} {}",
+        at.offset,
+        at.line,
+        at.column,
+        hex(&token.text)
+    );
     if token.kind == Kind::String {
         line += &format!(" {}", hex(&token.value));
     }
@@ -34,7 +40,10 @@ pub fn listing(mut scanner: Scanner) -> Result<String, Refusal> {
     }
     for error in scanner.errors()? {
         let at = error.position;
-        lines.push(format!("E {} {} {} {}", at.offset, at.line, at.column, error.number));
+        lines.push(format!(
+            "E {} {} {} {}",
+            at.offset, at.line, at.column, error.number
+        ));
     }
     lines.push(format!("L {}", scanner.line_count()));
     Ok(lines.join(" | "))
