@@ -7,7 +7,7 @@ use common::listing;
 
 fn check(text: &str, expected: &str) {
     let scanner = Scanner::new(text.as_bytes()).expect(text);
-    assert_eq!(listing(scanner).as_deref(), Ok(expected), "{text:?}");
+    assert_eq!(listing(scanner).unwrap().join(" | "), expected, "{text:?}");
 }
 
 #[test]
@@ -57,7 +57,7 @@ fn the_ten_rows() {
 fn the_tenth_row_in_a_larger_size() {
     let scanner = Scanner::with_size(b"`\n", 0, 3).unwrap();
     let expected = "0 1 1 9 600a 0a | 2 2 1 55 - | 2 2 1 2 - | E 2 2 1 6 | L 2";
-    assert_eq!(listing(scanner).as_deref(), Ok(expected));
+    assert_eq!(listing(scanner).unwrap().join(" | "), expected);
 }
 
 #[test]
@@ -70,7 +70,7 @@ fn characters_count_and_not_bytes() {
 }
 
 #[test]
-fn values() {
+fn values_and_semicolons() {
     check(
         r#""\x80""#,
         "0 1 1 9 225c78383022 80 | 6 1 7 55 - | 6 1 7 2 - | L 1",
@@ -83,4 +83,5 @@ fn values() {
         r"'\000'",
         "0 1 1 8 275c30303027 0 | 6 1 7 55 - | 6 1 7 2 - | L 1",
     );
+    check("x;", "0 1 1 4 78 | 1 1 2 55 3b | 2 1 3 2 - | L 1");
 }

@@ -1,4 +1,4 @@
-//! Listings: tokens up to EOF, errors, line count, the lines parted by bars.
+//! Listings: a line for each token up to EOF, for each error, and for the line count.
 
 use cifgwezam::{Kind, Pos, Refusal, Scanner, Token};
 
@@ -9,16 +9,14 @@ fn hex(bytes: &[u8]) -> String {
     bytes.iter().map(|byte| format!("{byte:02x}")).collect()
 }
 
+/// Offset, line, column, kind and text, then the value of a string or a character. The text of a semicolon that
+/// stands in the source is listed, too.
 fn line(scanner: &Scanner, token: &Token, pos: Pos) -> Result<String, Refusal> {
     let at = scanner.position(pos)?;
     let kind = token.kind as u8;
-    let mut line = format!(
-        "{} {} {} {kind} {}",
-        at.offset,
-        at.line,
-        at.column,
-        hex(&token.text)
-    );
+    let written = token.kind == Kind::Semicolon && !token.inserted;
+    let text = hex(if written { b";" } else { &token.text });
+    let mut line = format!("{} {} {} {kind} {text}", at.offset, at.line, at.column);
     if token.kind == Kind::String {
         line += &format!(" {}", hex(&token.value));
     }
@@ -29,7 +27,7 @@ fn line(scanner: &Scanner, token: &Token, pos: Pos) -> Result<String, Refusal> {
 }
 
 /// The listing of a scanner that was just opened.
-pub fn listing(mut scanner: Scanner) -> Result<String, Refusal> {
+pub fn listing(mut scanner: Scanner) -> Result<Vec<String>, Refusal> {
     let mut lines = Vec::new();
     loop {
         let (token, pos) = scanner.scan()?;
@@ -40,11 +38,12 @@ pub fn listing(mut scanner: Scanner) -> Result<String, Refusal> {
     }
     for error in scanner.errors()? {
         let at = error.position;
+        let number = error.number;
         lines.push(format!(
-            "E {} {} {} {}",
-            at.offset, at.line, at.column, error.number
+            "E {} {} {} {number}",
+            at.offset, at.line, at.column
         ));
     }
     lines.push(format!("L {}", scanner.line_count()));
-    Ok(lines.join(" | "))
+    Ok(lines)
 }
