@@ -296,7 +296,7 @@ static void test_area(void)
 static void test_growth(void)
 {
     size_t asked = 0, len = 1, i;
-    uint8_t refusal, *area = malloc(len);
+    uint8_t refusal = SCANNER_AREA_FULL, *area = malloc(len);
     char text[2 + 1000 + 3];
     struct run r;
     for (i = 2; i < 1002; i++)

@@ -55,10 +55,7 @@ fn main() -> Result<(), Box<dyn std::error::Error>> {
         let (seen, scan) = best(&source, scanned)?;
         let (other, advance) = best(&source, advanced)?;
         assert_eq!(seen, other);
-        println!(
-            "{file}: {} tokens; scan {scan:.1} ns, advance {advance:.1} ns a token",
-            seen.0
-        );
+        println!("{file}: {} tokens; scan {scan:.1} ns, advance {advance:.1} ns a token", seen.0);
     }
     Ok(())
 }

@@ -18,12 +18,7 @@ const RECORD: usize = 4;
 impl Buffers {
     /// Buffers that do for most sources of so many bytes.
     pub fn new(source: usize) -> Buffers {
-        Buffers {
-            table: vec![0; source / 16 + 1],
-            list: vec![0; 8 * RECORD],
-            area: vec![0; 512],
-            source,
-        }
+        Buffers { table: vec![0; source / 16 + 1], list: vec![0; 8 * RECORD], area: vec![0; 512], source }
     }
 
     /// Doubles the buffer that a scan was refused for. Every other refusal stands, and so does this one where the

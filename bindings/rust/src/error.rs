@@ -51,15 +51,8 @@ impl Error {
         if !(1..=MESSAGES.len()).contains(&number) {
             return None;
         }
-        let position = Position {
-            offset,
-            line,
-            column,
-        };
-        Some(Error {
-            position,
-            number: number as u8,
-        })
+        let position = Position { offset, line, column };
+        Some(Error { position, number: number as u8 })
     }
 
     /// What its number means, in words.

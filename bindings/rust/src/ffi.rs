@@ -71,14 +71,7 @@ extern "C" {
 }
 
 /// Opens a source; the answer is its number of characters, or with 1 the place of the bad byte.
-pub fn open(
-    src: &[u8],
-    base: usize,
-    size: usize,
-    table: &mut [usize],
-    state: &mut State,
-    answer: &mut usize,
-) -> u8 {
+pub fn open(src: &[u8], base: usize, size: usize, table: &mut [usize], state: &mut State, answer: &mut usize) -> u8 {
     // SAFETY: each pointer and length are those of a live slice (the answer: of one number). The lent ones that
     // are written are exclusive borrows, so no two overlap.
     unsafe {
@@ -147,31 +140,13 @@ pub fn position(state: &State, table: &[usize], position: usize, answer: &mut [u
 pub fn line_start(state: &State, table: &[usize], line: usize, answer: &mut usize) -> u8 {
     // SAFETY: each pointer and length are those of a live slice (the answer: of one number); the answer, which is
     // written, is an exclusive borrow.
-    unsafe {
-        scanner_line_start(
-            state.as_ptr(),
-            state.len(),
-            table.as_ptr(),
-            table.len(),
-            line,
-            answer,
-            1,
-        )
-    }
+    unsafe { scanner_line_start(state.as_ptr(), state.len(), table.as_ptr(), table.len(), line, answer, 1) }
 }
 
 /// The offset, line, column and number of an error; zeros where there is none.
 pub fn error(state: &State, list: &[usize], index: usize, answer: &mut [usize; 4]) -> u8 {
     // SAFETY: each pointer and length are those of a live slice; the answer, which is written, is an exclusive borrow.
     unsafe {
-        scanner_error(
-            state.as_ptr(),
-            state.len(),
-            list.as_ptr(),
-            list.len(),
-            index,
-            answer.as_mut_ptr(),
-            answer.len(),
-        )
+        scanner_error(state.as_ptr(), state.len(), list.as_ptr(), list.len(), index, answer.as_mut_ptr(), answer.len())
     }
 }

@@ -53,11 +53,7 @@ impl Numbers {
 
     #[inline]
     fn part(&self, at: usize) -> Part {
-        Part {
-            in_area: self.0[at] != 0,
-            start: self.0[at + 1],
-            end: self.0[at + 2],
-        }
+        Part { in_area: self.0[at] != 0, start: self.0[at + 1], end: self.0[at + 2] }
     }
 }
 
@@ -100,14 +96,8 @@ mod tests {
         assert_eq!(with(0, 4).text().of(b"abc"), Ok(&b"bc"[..]));
         assert_eq!(with(0, 4).text().of(b"ab"), Err(Refusal::DoesNotFit));
         assert_eq!(with(5, 4).text().of(b"abc"), Err(Refusal::DoesNotFit));
-        assert_eq!(
-            with(5, usize::MAX).text().of(b"abc"),
-            Err(Refusal::DoesNotFit)
-        );
-        assert_eq!(
-            with(9, usize::MAX).value().of(b"abc"),
-            Err(Refusal::DoesNotFit)
-        );
+        assert_eq!(with(5, usize::MAX).text().of(b"abc"), Err(Refusal::DoesNotFit));
+        assert_eq!(with(9, usize::MAX).value().of(b"abc"), Err(Refusal::DoesNotFit));
         assert_eq!(with(9, 2).value().of(b"abc"), Ok(&b""[..]));
     }
 }

@@ -66,9 +66,7 @@ impl fmt::Display for Refusal {
         match self {
             Refusal::NotUtf8 { place } => write!(f, "the source is not UTF-8: see byte {place}"),
             Refusal::TooLong => f.write_str("the source is too long"),
-            Refusal::Size => f.write_str(
-                "the size is below the number of characters, or base + size is too large",
-            ),
+            Refusal::Size => f.write_str("the size is below the number of characters, or base + size is too large"),
             Refusal::Position => f.write_str("the position is outside the source"),
             Refusal::Line => f.write_str("there is no such line"),
             Refusal::DoesNotFit => f.write_str("state, source and buffers do not fit together"),

@@ -47,7 +47,7 @@ impl<'src> Scanner<'src> {
             chars: 0,
             state: [0; 7],
             token: Numbers::default(),
-            buffers: Buffers::new(source.len()),
+            buffers: Buffers::new(source.len().min(Self::MAX_SOURCE)),
         };
         let table = &mut scanner.buffers.table;
         let mut answer = 0;
@@ -78,6 +78,15 @@ impl<'src> Scanner<'src> {
 
     /// Scans the next token, and gives its kind alone. The rest of it is asked for after that: [`Scanner::pos`],
     /// [`Scanner::text`], [`Scanner::value`], [`Scanner::code`], [`Scanner::inserted`]. Nothing is ever copied.
+    ///
+    /// ```
+    /// # use cifgwezam::{Kind, Scanner};
+    /// let mut scanner = Scanner::new(b"017 + x")?;
+    /// assert_eq!(scanner.advance()?, Kind::Int);
+    /// assert_eq!((scanner.pos(), scanner.text()?), (0, &b"0o17"[..]));
+    /// assert_eq!(scanner.advance()?, Kind::Add);
+    /// # Ok::<(), cifgwezam::Refusal>(())
+    /// ```
     #[inline]
     pub fn advance(&mut self) -> Result<Kind, Refusal> {
         match self.call() {
@@ -87,7 +96,7 @@ impl<'src> Scanner<'src> {
         self.token.kind()
     }
 
-    /// The position of the last token's first character.
+    /// The position of the last token's first character; 0 before the first scan.
     #[inline]
     pub fn pos(&self) -> Pos {
         self.token.pos()
@@ -124,9 +133,7 @@ impl<'src> Scanner<'src> {
 
     /// The errors of what was scanned, in order.
     pub fn errors(&self) -> Result<Vec<Error>, Refusal> {
-        (0..self.error_count())
-            .map(|index| self.error(index))
-            .collect()
+        (0..self.error_count()).map(|index| self.error(index)).collect()
     }
 
     /// How many errors there are so far.
@@ -137,29 +144,15 @@ impl<'src> Scanner<'src> {
     /// The offset, line and column of a position. Lines are known as far as the source was scanned.
     pub fn position(&self, pos: Pos) -> Result<Position, Refusal> {
         let mut answer = [0; 3];
-        given(ffi::position(
-            &self.state,
-            &self.buffers.table,
-            pos,
-            &mut answer,
-        ))?;
+        given(ffi::position(&self.state, &self.buffers.table, pos, &mut answer))?;
         let [offset, line, column] = answer;
-        Ok(Position {
-            offset,
-            line,
-            column,
-        })
+        Ok(Position { offset, line, column })
     }
 
     /// The position at which a line, counted from 1, starts.
     pub fn line_start(&self, line: usize) -> Result<Pos, Refusal> {
         let mut answer = 0;
-        given(ffi::line_start(
-            &self.state,
-            &self.buffers.table,
-            line,
-            &mut answer,
-        ))?;
+        given(ffi::line_start(&self.state, &self.buffers.table, line, &mut answer))?;
         Ok(answer)
     }
 
@@ -191,17 +184,8 @@ impl<'src> Scanner<'src> {
     /// One call of the library.
     #[inline]
     fn call(&mut self) -> u8 {
-        let Buffers {
-            table, list, area, ..
-        } = &mut self.buffers;
-        ffi::scan(
-            self.source,
-            &mut self.state,
-            table,
-            list,
-            area,
-            &mut self.token.0,
-        )
+        let Buffers { table, list, area, .. } = &mut self.buffers;
+        ffi::scan(self.source, &mut self.state, table, list, area, &mut self.token.0)
     }
 
     /// Repeats a refused call with larger buffers.
@@ -226,21 +210,12 @@ impl<'src> Scanner<'src> {
     /// A text or value where it stands.
     #[inline]
     fn lent(&self, part: Part) -> Result<&[u8], Refusal> {
-        part.of(if part.in_area {
-            &self.buffers.area
-        } else {
-            self.source
-        })
+        part.of(if part.in_area { &self.buffers.area } else { self.source })
     }
 
     fn error(&self, index: usize) -> Result<Error, Refusal> {
         let mut answer = [0; 4];
-        given(ffi::error(
-            &self.state,
-            &self.buffers.list,
-            index,
-            &mut answer,
-        ))?;
+        given(ffi::error(&self.state, &self.buffers.list, index, &mut answer))?;
         Error::of(answer).ok_or(Refusal::DoesNotFit)
     }
 }

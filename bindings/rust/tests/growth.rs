@@ -55,9 +55,6 @@ fn every_small_length() {
         let source = "\n0'".repeat(length);
         let scanner = read(source.as_bytes());
         assert_eq!(scanner.error_count(), length);
-        assert_eq!(
-            scanner.line_count(),
-            length.max(1) + usize::from(length > 0)
-        );
+        assert_eq!(scanner.line_count(), length.max(1) + usize::from(length > 0));
     }
 }

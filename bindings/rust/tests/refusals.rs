@@ -11,10 +11,7 @@ fn bytes_that_are_not_utf8() {
     assert_eq!(opening(b"\x80"), Some(Refusal::NotUtf8 { place: 0 }));
     assert_eq!(opening(b"a\xff"), Some(Refusal::NotUtf8 { place: 1 }));
     assert_eq!(opening(b"ab\xe2\x82"), Some(Refusal::NotUtf8 { place: 2 }));
-    assert_eq!(
-        opening(b"\xed\xa0\x80"),
-        Some(Refusal::NotUtf8 { place: 0 })
-    );
+    assert_eq!(opening(b"\xed\xa0\x80"), Some(Refusal::NotUtf8 { place: 0 }));
 }
 
 #[test]
@@ -48,10 +45,7 @@ fn positions_and_lines() {
 #[test]
 fn in_words() {
     let refusal = opening(b"a\xff").unwrap();
-    assert_eq!(
-        (refusal.number(), refusal.to_string()),
-        (1, "the source is not UTF-8: see byte 1".to_string())
-    );
+    assert_eq!((refusal.number(), refusal.to_string()), (1, "the source is not UTF-8: see byte 1".to_string()));
     let error: Box<dyn std::error::Error> = Box::new(Refusal::TooLong);
     assert_eq!(error.to_string(), "the source is too long");
 }

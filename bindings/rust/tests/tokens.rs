@@ -15,9 +15,7 @@ fn borrowed(token: &Token) -> (bool, bool) {
 
 #[test]
 fn plain_texts_are_borrowed() {
-    for source in [
-        "name", "12", "\"ab\"", "`ab`", "// c\n", "/* c */", "'a'", "#",
-    ] {
+    for source in ["name", "12", "\"ab\"", "`ab`", "// c\n", "/* c */", "'a'", "#"] {
         let token = first(source.as_bytes());
         assert_eq!(borrowed(&token), (true, true), "{source}");
         assert_eq!(token.text, source.as_bytes());
@@ -60,20 +58,9 @@ fn only_characters_have_a_code() {
 fn inserted_semicolons() {
     let mut scanner = Scanner::new(b"x;y\n").unwrap();
     let scanned: Vec<_> = scanner.tokens().map(Result::unwrap).collect();
-    let kinds: Vec<_> = scanned
-        .iter()
-        .map(|(token, _)| (token.kind, token.inserted))
-        .collect();
+    let kinds: Vec<_> = scanned.iter().map(|(token, _)| (token.kind, token.inserted)).collect();
     let semicolon = Kind::Semicolon;
-    assert_eq!(
-        kinds,
-        [
-            (Kind::Ident, false),
-            (semicolon, false),
-            (Kind::Ident, false),
-            (semicolon, true)
-        ]
-    );
+    assert_eq!(kinds, [(Kind::Ident, false), (semicolon, false), (Kind::Ident, false), (semicolon, true)]);
 }
 
 #[test]
@@ -83,14 +70,8 @@ fn advancing_gives_the_same_tokens() {
     let mut other = Scanner::new(source).unwrap();
     loop {
         let (token, pos) = one.scan().unwrap();
-        assert_eq!(
-            (Ok(token.kind), token.inserted, pos),
-            (other.advance(), other.inserted(), other.pos())
-        );
-        assert_eq!(
-            (Ok(&*token.text), Ok(&*token.value)),
-            (other.text(), other.value())
-        );
+        assert_eq!((Ok(token.kind), token.inserted, pos), (other.advance(), other.inserted(), other.pos()));
+        assert_eq!((Ok(&*token.text), Ok(&*token.value)), (other.text(), other.value()));
         assert_eq!(Ok(token.code), other.code());
         if token.kind == Kind::Eof {
             break;
@@ -106,15 +87,7 @@ fn kinds_and_numbers() {
         assert_eq!(kind as usize, number);
     }
     assert_eq!(Kind::try_from(82), Err(NoKind(82)));
-    assert_eq!(
-        (
-            Kind::Eof as u8,
-            Kind::Ident as u8,
-            Kind::Semicolon as u8,
-            Kind::Var as u8
-        ),
-        (2, 4, 55, 81)
-    );
+    assert_eq!((Kind::Eof as u8, Kind::Ident as u8, Kind::Semicolon as u8, Kind::Var as u8), (2, 4, 55, 81));
 }
 
 /// Each operator and keyword is the token that its name is.

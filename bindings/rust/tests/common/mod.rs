@@ -39,10 +39,7 @@ pub fn listing(mut scanner: Scanner) -> Result<Vec<String>, Refusal> {
     for error in scanner.errors()? {
         let at = error.position;
         let number = error.number;
-        lines.push(format!(
-            "E {} {} {} {number}",
-            at.offset, at.line, at.column
-        ));
+        lines.push(format!("E {} {} {} {number}", at.offset, at.line, at.column));
     }
     lines.push(format!("L {}", scanner.line_count()));
     Ok(lines)
