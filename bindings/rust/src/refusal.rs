@@ -19,7 +19,8 @@ pub enum Refusal {
     /// 5: there is no such line: 0, or above the line count.
     Line,
     /// 6: state, source and buffers do not go together, or the library answered something out of its range.
-    /// A [`Scanner`](crate::Scanner) keeps them together, and the library is proved: this says that another one was linked.
+    /// A [`Scanner`](crate::Scanner) keeps them together, and the library is proved: this says that another one
+    /// was linked.
     DoesNotFit,
     /// 7: more line starts than the table holds. A [`Scanner`](crate::Scanner) enlarges its table instead.
     TableFull,
