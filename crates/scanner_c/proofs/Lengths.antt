@@ -5,13 +5,11 @@ use mathlib.Core.Bool.{true, false, _||_}
 use lib.Dec.{ltb}
 use borrow.Author.Tests.{lt-ltb, le-ltb}
 
-module _ (a m b n : ℕ) where
-  pub first-short : a < m → ltb a m || ltb b n ≡ true
-  first-short h = rw (lt-ltb a m h)
+pub first-short : {a m : ℕ} → a < m → (b n : ℕ) → ltb a m || ltb b n ≡ true
+first-short {a} {m} h b n = rw (lt-ltb a m h)
 
-  module _ (h : m ≤ a) where
-    pub second-short : b < n → ltb a m || ltb b n ≡ true
-    second-short g = rw (le-ltb a m h, lt-ltb b n g)
+pub second-short : {a m b n : ℕ} → m ≤ a → b < n → ltb a m || ltb b n ≡ true
+second-short {a} {m} {b} {n} h g = rw (le-ltb a m h, lt-ltb b n g)
 
-    pub long-enough : n ≤ b → ltb a m || ltb b n ≡ false
-    long-enough g = rw (le-ltb a m h, le-ltb b n g)
+pub long-enough : {a m b n : ℕ} → m ≤ a → n ≤ b → ltb a m || ltb b n ≡ false
+long-enough {a} {m} {b} {n} h g = rw (le-ltb a m h, le-ltb b n g)

@@ -1,23 +1,25 @@
 -- `calls::scanner_position` meets its contract: past both tests the state in the numbers is asked.
-use mathlib.Core.Path.{_≡_, sym, ap, _∙_}
+use mathlib.Core.Path.{_≡_}
+use mathlib.Core.Bool.{false, _||_}
 use native.Mathlib.Omega.{arith}
-use lib.ListN.{length-set}
+use lib.Dec.{ltb}
+use lib.ListN.{length, length-set}
 use borrow.Author.Needs.{needs}
 use Rattle.position.specs.Answers.{located}
 use Rattle.state.specs.Queries.{positionIn}
-use Rattle.scanner_c.specs.Numbers.{stateIn}
+use Rattle.scanner_c.specs.Numbers.{stateWidth, stateIn}
 use Rattle.scanner_c.specs.Calls.{positionNumbers}
-use Rattle.scanner_c.proofs.Results.{asked-state, asked-answer, asked-gave, asked-refused}
+use Rattle.scanner_c.proofs.Lengths.{first-short, second-short, long-enough}
 use Rattle.scanner_c.proofs.calls.scanner_position.Statement.{statement}
 use Rattle.scanner_c.proofs.calls.scanner_position.Tie as tie
 
 returns : tie.Need-returns
 unfolding positionNumbers
-returns c = sym (asked-state 3 _ _ _ _ (c .if1 .taken))
+returns c = rw (first-short (c .if1 .taken))
 
 returns-2 : tie.Need-returns-2
 unfolding positionNumbers
-returns-2 c = sym (asked-answer 3 _ _ _ (c .before .if1 .left) _ (c .if2 .taken))
+returns-2 c = rw (second-short (c .before .if1 .left) (c .if2 .taken))
 
 state-in-requires : tie.Need-state-in-requires
 state-in-requires c κs = search needs
@@ -43,17 +45,20 @@ enum-known-located-2 c = search needs
 same-length : tie.Need-same-length
 same-length c = search needs
 
--- the outcome for the state that the numbers are
-told : (c : tie.After-position) → let a = c .before .before .before .before .before .before .before .args in located (c .position .result) ≡ positionIn (stateIn (a .state .now)) (a .table .now) (a .p)
-told c = c .position .ensures ∙ rw (c .before .state-in .ensures)
+-- past both tests the slices are long enough, and the state that the numbers are is asked
+told : (c : tie.After-position) → let a = c .before .before .before .before .before .before .before .args in positionIn (stateIn (a .state .now)) (a .table .now) (a .p) ≡ located (c .position .result)
+told c = rw (c .position .ensures, c .before .state-in .ensures)
+
+enough : (c : tie.After-position) → let a = c .before .before .before .before .before .before .before .args in ltb (length (a .state .now)) stateWidth || ltb (length (a .answer .now)) 3 ≡ false
+enough c = long-enough (c .before .before .before .if1 .left) (c .before .before .if2 .left)
 
 returns-3 : tie.Need-returns-3
 unfolding positionNumbers
-returns-3 c = let q = c .before .before .before in sym (asked-gave 3 _ _ _ (q .before .before .before .if1 .left) (q .before .before .if2 .left) _ (sym (ap located (c .before .located .given .1)) ∙ told q))
+returns-3 c = let q = c .before .before .before in rw (enough q, told q, c .before .located .given .1)
 
 returns-4 : tie.Need-returns-4
 unfolding positionNumbers
-returns-4 c = let q = c .before .before .before in sym (asked-refused 3 _ _ _ (q .before .before .before .if1 .left) (q .before .before .if2 .left) _ (sym (ap located (c .before .located2 .given .1)) ∙ told q))
+returns-4 c = let q = c .before .before .before in rw (enough q, told q, c .before .located2 .given .1)
 
 pub scanner-position-spec : {M : Type 1} → statement M
 scanner-position-spec =

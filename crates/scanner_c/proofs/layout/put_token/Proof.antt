@@ -1,4 +1,3 @@
-use mathlib.Core.Path.{refl}
 use native.Mathlib.Omega.{arith}
 use lib.ListN.{length-set}
 use borrow.Author.Needs.{needs}
@@ -54,7 +53,7 @@ same-length : tie.Need-same-length
 same-length c = search needs
 
 returns : tie.Need-returns
-returns c = rw (c .before .before .bit-of .ensures, c .before .bit-of2 .ensures, c .bit-of3 .ensures)
+returns c = rw (c .before .before .before .bit-of .ensures, c .before .bit-of2 .ensures, c .bit-of3 .ensures)
 
 pub put-token-spec : {M : Type 1} → statement M
 put-token-spec =
