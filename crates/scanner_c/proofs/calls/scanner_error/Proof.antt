@@ -47,27 +47,40 @@ enum-known-got-2 c = search needs
 same-length : tie.Need-same-length
 same-length c = search needs
 
--- past both tests the slices are long enough, and the state that the numbers are is asked
-told : (c : tie.After-error) → let a = c .before .before .before .before .before .before .before .args in errorIn (stateIn (a .state .now)) (a .list .now) (a .index) ≡ got (c .error .result)
+-- what the state in the numbers answers
+told : (c : tie.After-error)
+    → let a = c .before .before .before .before .before .before .before .args in
+    errorIn (stateIn (a .state .now)) (a .list .now) (a .index) ≡ got (c .error .result)
 told c = rw (c .error .ensures, c .before .state-in .ensures)
 
-enough : (c : tie.After-error) → let a = c .before .before .before .before .before .before .before .args in ltb (length (a .state .now)) stateWidth || ltb (length (a .answer .now)) 4 ≡ false
+-- past both tests the slices are long enough
+enough : (c : tie.After-error)
+    → let a = c .before .before .before .before .before .before .before .args in
+    ltb (length (a .state .now)) stateWidth || ltb (length (a .answer .now)) 4 ≡ false
 enough c = long-enough (c .before .before .before .if1 .left) (c .before .before .if2 .left)
 
 returns-3 : tie.Need-returns-3
 unfolding errorNumbers
-returns-3 c = let p = c .before .before in let q = p .before .before .before .before .before in rw (p .put-error .ensures, enough q, told q, p .before .before .before .got .given .1)
+returns-3 c =
+    let p = c .before .before in
+    let q = p .before .before .before .before .before in
+    rw (p .put-error .ensures, enough q, told q, p .before .before .before .got .given .1)
 
 same-length-2 : tie.Need-same-length-2
 same-length-2 c = search needs
 
 returns-4 : tie.Need-returns-4
 unfolding errorNumbers
-returns-4 c = let p = c .before .before in let q = p .before .before .before .before .before in rw (p .put-error2 .ensures, p .before .before .no-error .ensures, enough q, told q, p .before .before .before .enum-told .given .1)
+returns-4 c =
+    let p = c .before .before in
+    let q = p .before .before .before .before .before in
+    rw (p .put-error2 .ensures, p .before .before .no-error .ensures, enough q, told q, p .before .before .before .enum-told .given .1)
 
 returns-5 : tie.Need-returns-5
 unfolding errorNumbers
-returns-5 c = let q = c .before .before .before in rw (enough q, told q, c .before .got2 .given .1)
+returns-5 c =
+    let q = c .before .before .before in
+    rw (enough q, told q, c .before .got2 .given .1)
 
 pub scanner-error-spec : {M : Type 1} → statement M
 scanner-error-spec =

@@ -38,20 +38,29 @@ enum-known-started-2 c = search needs
 same-length : tie.Need-same-length
 same-length c = search needs
 
--- past both tests the slices are long enough, and the state that the numbers are is asked
-told : (c : tie.After-line-start) → let a = c .before .before .before .before .before .before .before .args in lineStartIn (stateIn (a .state .now)) (a .table .now) (a .line) ≡ outcome (c .line-start .result)
+-- what the state in the numbers answers
+told : (c : tie.After-line-start)
+    → let a = c .before .before .before .before .before .before .before .args in
+    lineStartIn (stateIn (a .state .now)) (a .table .now) (a .line) ≡ outcome (c .line-start .result)
 told c = rw (c .line-start .ensures, c .before .state-in .ensures)
 
-enough : (c : tie.After-line-start) → let a = c .before .before .before .before .before .before .before .args in ltb (length (a .state .now)) stateWidth || ltb (length (a .answer .now)) 1 ≡ false
+-- past both tests the slices are long enough
+enough : (c : tie.After-line-start)
+    → let a = c .before .before .before .before .before .before .before .args in
+    ltb (length (a .state .now)) stateWidth || ltb (length (a .answer .now)) 1 ≡ false
 enough c = long-enough (c .before .before .before .if1 .left) (c .before .before .if2 .left)
 
 returns-3 : tie.Need-returns-3
 unfolding lineStartNumbers
-returns-3 c = let q = c .before .before .before in rw (enough q, told q, c .before .started .given .1)
+returns-3 c =
+    let q = c .before .before .before in
+    rw (enough q, told q, c .before .started .given .1)
 
 returns-4 : tie.Need-returns-4
 unfolding lineStartNumbers
-returns-4 c = let q = c .before .before .before in rw (enough q, told q, c .before .started2 .given .1)
+returns-4 c =
+    let q = c .before .before .before in
+    rw (enough q, told q, c .before .started2 .given .1)
 
 pub scanner-line-start-spec : {M : Type 1} → statement M
 scanner-line-start-spec =

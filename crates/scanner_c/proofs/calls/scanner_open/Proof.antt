@@ -52,13 +52,18 @@ same-length-2 c = search needs
 same-length-3 : tie.Need-same-length-3
 same-length-3 c = search needs
 
--- past both tests the slices are long enough, and the source is opened
-enough : (c : tie.After-slice-known4) → let a = c .before .before .before .before .before .before .before .before .before .before .args in ltb (length (a .state .now)) stateWidth || ltb (length (a .answer .now)) 1 ≡ false
+-- past both tests the slices are long enough
+enough : (c : tie.After-slice-known4)
+    → let a = c .before .before .before .before .before .before .before .before .before .before .args in
+    ltb (length (a .state .now)) stateWidth || ltb (length (a .answer .now)) 1 ≡ false
 enough c = long-enough (c .before .before .before .before .before .if1 .left) (c .before .before .before .before .if2 .left)
 
 returns-3 : tie.Need-returns-3
 unfolding openNumbers
-returns-3 c = let p = c .before .before in let k = p .before .before .before .before .before in rw (p .put-state .ensures, enough k, ← (k .before .before .open .ensures), p .before .before .before .opened .given .1)
+returns-3 c =
+    let p = c .before .before in
+    let k = p .before .before .before .before .before in
+    rw (p .put-state .ensures, enough k, ← (k .before .before .open .ensures), p .before .before .before .opened .given .1)
 
 same-length-4 : tie.Need-same-length-4
 same-length-4 c = search needs
@@ -68,7 +73,9 @@ same-length-5 c = search needs
 
 returns-4 : tie.Need-returns-4
 unfolding openNumbers
-returns-4 c = let k = c .before .before .before in rw (enough k, ← (k .before .before .open .ensures), c .before .opened2 .given .1)
+returns-4 c =
+    let k = c .before .before .before in
+    rw (enough k, ← (k .before .before .open .ensures), c .before .opened2 .given .1)
 
 same-length-6 : tie.Need-same-length-6
 same-length-6 c = search needs
@@ -78,14 +85,18 @@ same-length-7 c = search needs
 
 returns-5 : tie.Need-returns-5
 unfolding openNumbers
-returns-5 c = let k = c .before .before .before .before in rw (enough k, ← (k .before .before .open .ensures), c .before .before .opened3 .given .1, eq-eqb _ _ (c .if3 .taken))
+returns-5 c =
+    let k = c .before .before .before .before in
+    rw (enough k, ← (k .before .before .open .ensures), c .before .before .opened3 .given .1, eq-eqb _ _ (c .if3 .taken))
 
 same-length-8 : tie.Need-same-length-8
 same-length-8 c = search needs
 
 returns-6 : tie.Need-returns-6
 unfolding openNumbers
-returns-6 c = let k = c .before .before .before .before in rw (enough k, ← (k .before .before .open .ensures), c .before .before .opened3 .given .1, ne-eqb _ _ (c .if3 .left))
+returns-6 c =
+    let k = c .before .before .before .before in
+    rw (enough k, ← (k .before .before .open .ensures), c .before .before .opened3 .given .1, ne-eqb _ _ (c .if3 .left))
 
 pub scanner-open-spec : {M : Type 1} → statement M
 scanner-open-spec =

@@ -45,20 +45,29 @@ enum-known-located-2 c = search needs
 same-length : tie.Need-same-length
 same-length c = search needs
 
--- past both tests the slices are long enough, and the state that the numbers are is asked
-told : (c : tie.After-position) → let a = c .before .before .before .before .before .before .before .args in positionIn (stateIn (a .state .now)) (a .table .now) (a .p) ≡ located (c .position .result)
+-- what the state in the numbers answers
+told : (c : tie.After-position)
+    → let a = c .before .before .before .before .before .before .before .args in
+    positionIn (stateIn (a .state .now)) (a .table .now) (a .p) ≡ located (c .position .result)
 told c = rw (c .position .ensures, c .before .state-in .ensures)
 
-enough : (c : tie.After-position) → let a = c .before .before .before .before .before .before .before .args in ltb (length (a .state .now)) stateWidth || ltb (length (a .answer .now)) 3 ≡ false
+-- past both tests the slices are long enough
+enough : (c : tie.After-position)
+    → let a = c .before .before .before .before .before .before .before .args in
+    ltb (length (a .state .now)) stateWidth || ltb (length (a .answer .now)) 3 ≡ false
 enough c = long-enough (c .before .before .before .if1 .left) (c .before .before .if2 .left)
 
 returns-3 : tie.Need-returns-3
 unfolding positionNumbers
-returns-3 c = let q = c .before .before .before in rw (enough q, told q, c .before .located .given .1)
+returns-3 c =
+    let q = c .before .before .before in
+    rw (enough q, told q, c .before .located .given .1)
 
 returns-4 : tie.Need-returns-4
 unfolding positionNumbers
-returns-4 c = let q = c .before .before .before in rw (enough q, told q, c .before .located2 .given .1)
+returns-4 c =
+    let q = c .before .before .before in
+    rw (enough q, told q, c .before .located2 .given .1)
 
 pub scanner-position-spec : {M : Type 1} → statement M
 scanner-position-spec =

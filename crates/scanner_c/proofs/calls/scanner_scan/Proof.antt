@@ -38,12 +38,16 @@ same-length-4 : tie.Need-same-length-4
 same-length-4 c = search needs
 
 -- past both tests the slices are long enough
-enough : (c : tie.After-scan) → let a = c .before .before .before .before .before .before .before .before .before .before .before .before .before .before .args in ltb (length (a .state .now)) stateWidth || ltb (length (a .token .now)) tokenWidth ≡ false
+enough : (c : tie.After-scan)
+    → let a = c .before .before .before .before .before .before .before .before .before .before .before .before .before .before .args in
+    ltb (length (a .state .now)) stateWidth || ltb (length (a .token .now)) tokenWidth ≡ false
 enough c = long-enough (c .before .before .before .before .before .before .before .if1 .left) (c .before .before .before .before .before .before .if2 .left)
 
 returns-3 : tie.Need-returns-3
 unfolding scanNumbers
-returns-3 c = let k = c .before .before .before .before .before .before .before .before in rw (enough k, ← (k .before .before .before .before .state-in .ensures), ← (k .scan .ensures)) (sym (scanned-refused _ _ _ _ (c .if3 .taken)))
+returns-3 c =
+    let k = c .before .before .before .before .before .before .before .before in
+    rw (enough k, ← (k .before .before .before .before .state-in .ensures), ← (k .scan .ensures)) (sym (scanned-refused _ _ _ _ (c .if3 .taken)))
 
 put-state-requires : tie.Need-put-state-requires
 put-state-requires c κs = search needs
@@ -68,7 +72,10 @@ same-length-9 c = search needs
 
 returns-4 : tie.Need-returns-4
 unfolding scanNumbers
-returns-4 c = let p = c .before .before in let k = p .before .before .before .before .before .before .before .before .before .before .before .before .before .before in rw (p .put-token .ensures, p .before .before .before .before .put-state .ensures, enough k, ← (k .before .before .before .before .state-in .ensures), ← (k .scan .ensures), p .before .before .before .before .before .before .if3 .left)
+returns-4 c =
+    let p = c .before .before in
+    let k = p .before .before .before .before .before .before .before .before .before .before .before .before .before .before in
+    rw (p .put-token .ensures, p .before .before .before .before .put-state .ensures, enough k, ← (k .before .before .before .before .state-in .ensures), ← (k .scan .ensures), p .before .before .before .before .before .before .if3 .left)
 
 pub scanner-scan-spec : {M : Type 1} → statement M
 scanner-scan-spec =

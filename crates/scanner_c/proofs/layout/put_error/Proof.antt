@@ -1,8 +1,9 @@
+-- `layout::put_error` meets its contract: the writes are the list's, one by one.
 use mathlib.Core.Path.{refl}
-use Rattle.errors.specs.Layout.{numbers}
 use native.Mathlib.Omega.{arith}
 use lib.ListN.{length-set}
 use borrow.Author.Needs.{needs}
+use Rattle.errors.specs.Layout.{numbers}
 use Rattle.scanner_c.proofs.layout.put_error.Statement.{statement}
 use Rattle.scanner_c.proofs.layout.put_error.Tie as tie
 

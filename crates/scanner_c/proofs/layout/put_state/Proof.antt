@@ -1,3 +1,4 @@
+-- `layout::put_state` meets its contract: the writes are the list's, one by one, and the mark's number is its bit.
 use native.Mathlib.Omega.{arith}
 use lib.ListN.{length-set}
 use borrow.Author.Needs.{needs}

@@ -1,3 +1,4 @@
+-- `layout::put_token` meets its contract: the writes are the list's, one by one, and each flag's number is its bit.
 use native.Mathlib.Omega.{arith}
 use lib.ListN.{length-set}
 use borrow.Author.Needs.{needs}
