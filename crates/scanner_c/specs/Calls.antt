@@ -1,6 +1,6 @@
 -- The exported functions, by the definitions of opening, scan and queries.
 use Prim.Native.Nat.{ℕ, zero, suc}
-use mathlib.Core.Bool.{Bool, cond, _||_}
+use mathlib.Core.Bool.{cond, _||_}
 use mathlib.Core.List.{List, [], _∷_}
 use mathlib.Core.Option.{Option, some, none}
 use lib.Dec.{eqb, ltb}
@@ -10,7 +10,7 @@ use Rattle.refusal.specs.Outcome.{Outcome, refused, gave}
 use Rattle.position.specs.declared.Position.{Position}
 use Rattle.errors.specs.declared.layout.Error.{Error}
 use Rattle.errors.specs.Layout.{width, numbers}
-use Rattle.state.specs.Opening.{Begun, Opening, openOf}
+use Rattle.state.specs.Opening.{Begun, openOf}
 use Rattle.state.specs.Queries.{positionIn, lineStartIn, errorIn}
 use Rattle.scanner.specs.Scan.{After, scanOf}
 use Rattle.scanner_c.specs.Numbers.{stateWidth, tokenWidth, stateIn, stateNumbers, tokenNumbers, noError}
