@@ -3,6 +3,7 @@ use Prim.Native.Nat.{ℕ, _≤_}
 use mathlib.Core.Path.{_≡_, refl, sym, ap, _∙_}
 use mathlib.Core.Bool.{Bool, true, false, cond, not}
 use mathlib.Core.List.{List, [], _∷_}
+use mathlib.Core.Option.{Option, some, none}
 use native.Mathlib.Omega.{arith}
 use native.Mathlib.Nat.{not-suc-le-zero}
 use lib.Dec.{leb, ltb}
@@ -24,7 +25,7 @@ use Rattle.runs.specs.Calls.{Held, Accepted}
 use Rattle.runs.proofs.Seen.{viewOf}
 
 -- an opening that gave passed this check
-passed : (t : Bool) (number place : ℕ) (table : List ℕ) (o r : Opening) {b : Begun} → r .outcome ≡ gave b → cond t (refusedWith number place table) o ≡ r → (t ≡ false) × (o ≡ r)
+passed : (t : Bool) (number : ℕ) (place : Option ℕ) (table : List ℕ) (o r : Opening) {b : Begun} → r .outcome ≡ gave b → cond t (refusedWith number place table) o ≡ r → (t ≡ false) × (o ≡ r)
 passed true number place table o r g e = refused-gave (ap (λ (x : Opening). x .outcome) e ∙ g)
 passed false number place table o r g e = (refl, e)
 
@@ -54,11 +55,11 @@ module _ {src : List ℕ} {base size : ℕ} {h : Held} where
   checked : Accepted src base size h → Checked src base size h
   unfolding openOf
   checked a =
-      let r : Opening = record { table = h .table; outcome = gave (record { state = h .state; chars = length (chars src) }); place = 0 } in
-      let p = passed (ltb maxSource (length src)) 2 0 (a .lent) _ r refl (a .opening) in
-      let q = passed (not (wellFormed src)) 1 (bytesBefore (chars src)) (a .lent) _ r refl (p .1) in
-      let s = passed (not (sized (length (chars src)) base size)) 3 0 (a .lent) _ r refl (q .1) in
-      let t = passed (ltb (length (a .lent)) 1) 7 0 (a .lent) _ r refl (s .1) in
+      let r : Opening = record { table = h .table; outcome = gave (record { state = h .state; chars = length (chars src) }); place = none } in
+      let p = passed (ltb maxSource (length src)) 2 none (a .lent) _ r refl (a .opening) in
+      let q = passed (not (wellFormed src)) 1 (some (bytesBefore (chars src))) (a .lent) _ r refl (p .1) in
+      let s = passed (not (sized (length (chars src)) base size)) 3 none (a .lent) _ r refl (q .1) in
+      let t = passed (ltb (length (a .lent)) 1) 7 none (a .lent) _ r refl (s .1) in
       record {
         formed = not-false _ (q .0);
         sizes = not-false _ (s .0);

@@ -3,6 +3,7 @@ use Prim.Native.Nat.{ℕ}
 use mathlib.Core.Path.{_≡_}
 use mathlib.Core.Bool.{cond}
 use mathlib.Core.List.{List, [], _∷_, _++_}
+use mathlib.Core.Option.{none}
 use lib.Dec.{eqb}
 use lib.ListN.{length, take}
 use Rattle.utf8.specs.Chars.{chars}
@@ -25,7 +26,7 @@ pub record Held : Type 0 where
 pub record Accepted (src : List ℕ) (base size : ℕ) (h : Held) : Type 0 where
   pub lent : List ℕ
   pub opening : openOf src base size lent
-      ≡ record { table = h .table; outcome = gave (record { state = h .state; chars = length (chars src) }); place = 0 }
+      ≡ record { table = h .table; outcome = gave (record { state = h .state; chars = length (chars src) }); place = none }
 
 -- one scan, with a text area of its own
 unfoldable pub call : List ℕ → List ℕ → Held → After

@@ -3,7 +3,7 @@ use Prim.Native.Nat.{ℕ, zero, suc}
 use mathlib.Core.Bool.{cond, _||_}
 use mathlib.Core.List.{List, [], _∷_}
 use mathlib.Core.Option.{Option, some, none}
-use lib.Dec.{eqb, ltb}
+use lib.Dec.{ltb}
 use lib.ListN.{length}
 use lib.Seq.{sets}
 use Rattle.refusal.specs.Outcome.{Outcome, refused, gave}
@@ -22,12 +22,17 @@ pub record Opened : Type 0 where
   pub state : List ℕ
   pub answer : List ℕ
 
+-- a place, if there is one, goes to the answer
+abbrev pub withPlace : Option ℕ → List ℕ → List ℕ
+withPlace (some place) answer = sets answer 0 (place ∷ [])
+withPlace none answer = answer
+
 -- for each outcome: the first state and the number of characters; a refusal by 1 answers a place
-abbrev pub openedBy : Outcome Begun → ℕ → List ℕ → List ℕ → List ℕ → Opened
+abbrev pub openedBy : Outcome Begun → Option ℕ → List ℕ → List ℕ → List ℕ → Opened
 openedBy (gave b) place table state answer =
     record { refusal = 0; table = table; state = sets state 0 (stateNumbers (b .state)); answer = sets answer 0 (b .chars ∷ []) }
 openedBy (refused number) place table state answer =
-    record { refusal = number; table = table; state = state; answer = cond (eqb number 1) (sets answer 0 (place ∷ [])) answer }
+    record { refusal = number; table = table; state = state; answer = withPlace place answer }
 
 unfoldable pub openNumbers : List ℕ → ℕ → ℕ → List ℕ → List ℕ → List ℕ → Opened
 openNumbers src base size table state answer =

@@ -49,13 +49,7 @@ pub extern "C" fn scanner_open(
             answer[0] = place;
             refusal::NOT_UTF8
         }
-        Opened::Refused(number) => {
-            // the contract of `open` leaves this form open for refusal 1 at place 0
-            if number == refusal::NOT_UTF8 {
-                answer[0] = 0;
-            }
-            number
-        }
+        Opened::Refused(number) => number,
     }
 }
 

@@ -3,6 +3,7 @@ use Prim.Native.Nat.{ℕ, _≤_, _<_}
 use mathlib.Core.Path.{_≡_, refl}
 use mathlib.Core.Bool.{Bool, true, false, cond}
 use mathlib.Core.List.{List}
+use mathlib.Core.Option.{some, none}
 use native.Mathlib.Omega.{arith}
 use lib.ListN.{length, set}
 use borrow.Author.Tests.{le-leb, lt-leb, lt-ltb, le-ltb}
@@ -24,12 +25,12 @@ bad-split true m place e = let z : _≡_ {A = ℕ} 0 1 = cc in absurd (omega ari
 bad-split false m place e = (refl, cc)
 
 module _ (src : List ℕ) (base size : ℕ) (table : List ℕ) where
-  pub open-long : maxSource < length src → openOf src base size table ≡ refusedWith 2 0 table
+  pub open-long : maxSource < length src → openOf src base size table ≡ refusedWith 2 none table
   unfolding openOf
   open-long h = rw (lt-ltb _ _ h)
 
   module _ (short : length src ≤ maxSource) where
-    pub open-bad : {at : ℕ} → Bad at ≡ checked src → openOf src base size table ≡ refusedWith 1 at table
+    pub open-bad : {at : ℕ} → Bad at ≡ checked src → openOf src base size table ≡ refusedWith 1 (some at) table
     unfolding openOf
     open-bad e =
         let b = bad-split (wellFormed src) (length (chars src)) (bytesBefore (chars src)) e in
@@ -39,20 +40,20 @@ module _ (src : List ℕ) (base size : ℕ) (table : List ℕ) where
       valid : (wellFormed src ≡ true) × (length (chars src) ≡ n)
       valid = valid-split (wellFormed src) (length (chars src)) (bytesBefore (chars src)) e
 
-      pub open-small : size < n → openOf src base size table ≡ refusedWith 3 0 table
+      pub open-small : size < n → openOf src base size table ≡ refusedWith 3 none table
       unfolding openOf
       open-small h = rw (le-ltb _ _ short, valid .0, valid .1, lt-leb _ _ h)
 
-      pub open-unplaced : placed (fileOf (fresh base size)) ≡ false → openOf src base size table ≡ refusedWith 3 0 table
+      pub open-unplaced : placed (fileOf (fresh base size)) ≡ false → openOf src base size table ≡ refusedWith 3 none table
       unfolding openOf fresh
       open-unplaced h = rw (le-ltb _ _ short, valid .0, h, and-no)
 
       module _ (h : n ≤ size) (g : placed (fileOf (fresh base size)) ≡ true) where
-        pub open-full : length table ≡ 0 → openOf src base size table ≡ refusedWith 7 0 table
+        pub open-full : length table ≡ 0 → openOf src base size table ≡ refusedWith 7 none table
         unfolding openOf fresh
         open-full z = rw (le-ltb _ _ short, valid .0, valid .1, le-leb _ _ h, g, z)
 
         pub open-ready : (length table ≡ 0 → ⊥) → openOf src base size table
-            ≡ record { table = set table 0 0; outcome = gave (record { state = fresh base size; chars = n }); place = 0 }
+            ≡ record { table = set table 0 0; outcome = gave (record { state = fresh base size; chars = n }); place = none }
         unfolding openOf fresh
         open-ready z = rw (le-ltb _ _ short, valid .0, valid .1, le-leb _ _ h, g, le-ltb (length table) 1 (omega arith))

@@ -2,6 +2,7 @@
 use Prim.Native.Nat.{ℕ}
 use mathlib.Core.Bool.{Bool, false, cond, not, _&&_}
 use mathlib.Core.List.{List}
+use mathlib.Core.Option.{Option, some, none}
 use lib.Dec.{ltb, leb}
 use lib.ListN.{length, set}
 use Rattle.utf8.specs.Chars.{chars, wellFormed, bytesBefore}
@@ -24,13 +25,13 @@ pub record Begun : Type 0 where
   pub state : State
   pub chars : ℕ
 
--- what opening leaves in the table, what it comes to, and the place that refusal 1 carries
+-- what opening leaves in the table, what it comes to, and the place that refusal 1, and it alone, carries
 pub record Opening : Type 0 where
   pub table : List ℕ
   pub outcome : Outcome Begun
-  pub place : ℕ
+  pub place : Option ℕ
 
-abbrev pub refusedWith : ℕ → ℕ → List ℕ → Opening
+abbrev pub refusedWith : ℕ → Option ℕ → List ℕ → Opening
 refusedWith number place table = record { table = table; outcome = refused number; place = place }
 
 -- "The size is at least n; base + size is at most 4,294,967,295."
@@ -40,11 +41,11 @@ sized n base size = leb n size && placed (record { base = base; size = size; lin
 -- "Opening checks 2, 1, 3, 7"
 unfoldable pub openOf : List ℕ → ℕ → ℕ → List ℕ → Opening
 openOf src base size table =
-    cond (ltb maxSource (length src)) (refusedWith 2 0 table)
-    (cond (not (wellFormed src)) (refusedWith 1 (bytesBefore (chars src)) table)
-    (cond (not (sized (length (chars src)) base size)) (refusedWith 3 0 table)
-    (cond (ltb (length table) 1) (refusedWith 7 0 table)
-    (record { table = set table 0 0; outcome = gave (record { state = fresh base size; chars = length (chars src) }); place = 0 }))))
+    cond (ltb maxSource (length src)) (refusedWith 2 none table)
+    (cond (not (wellFormed src)) (refusedWith 1 (some (bytesBefore (chars src))) table)
+    (cond (not (sized (length (chars src)) base size)) (refusedWith 3 none table)
+    (cond (ltb (length table) 1) (refusedWith 7 none table)
+    (record { table = set table 0 0; outcome = gave (record { state = fresh base size; chars = length (chars src) }); place = none }))))
 
 -- what each answer of opening comes to
 abbrev pub outcomeOf : Opened → Outcome Begun
@@ -52,7 +53,7 @@ outcomeOf (Ready state chars) = gave (record { state = state; chars = chars })
 outcomeOf (NotUtf8 place) = refused 1
 outcomeOf (Refused number) = refused number
 
-abbrev pub placeOf : Opened → ℕ
-placeOf (Ready state chars) = 0
-placeOf (NotUtf8 place) = place
-placeOf (Refused number) = 0
+abbrev pub placeOf : Opened → Option ℕ
+placeOf (Ready state chars) = none
+placeOf (NotUtf8 place) = some place
+placeOf (Refused number) = none

@@ -4,7 +4,6 @@ use mathlib.Core.Bool.{false, _||_}
 use lib.Dec.{ltb}
 use lib.ListN.{length}
 use borrow.Author.Needs.{needs}
-use borrow.Author.Tests.{eq-eqb, ne-eqb}
 use Rattle.scanner_c.specs.Numbers.{stateWidth}
 use Rattle.scanner_c.specs.Calls.{openNumbers}
 use Rattle.scanner_c.proofs.Lengths.{first-short, second-short, long-enough}
@@ -39,9 +38,6 @@ slice-write-answer-2 c = search needs
 
 enum-known-opened-3 : tie.Need-enum-known-opened-3
 enum-known-opened-3 c = search needs
-
-slice-write-answer-3 : tie.Need-slice-write-answer-3
-slice-write-answer-3 c = search needs
 
 same-length : tie.Need-same-length
 same-length c = search needs
@@ -80,23 +76,11 @@ returns-4 c =
 same-length-6 : tie.Need-same-length-6
 same-length-6 c = search needs
 
-same-length-7 : tie.Need-same-length-7
-same-length-7 c = search needs
-
 returns-5 : tie.Need-returns-5
 unfolding openNumbers
 returns-5 c =
-    let k = c .before .before .before .before in
-    rw (enough k, ← (k .before .before .open .ensures), c .before .before .opened3 .given .1, eq-eqb _ _ (c .if3 .taken))
-
-same-length-8 : tie.Need-same-length-8
-same-length-8 c = search needs
-
-returns-6 : tie.Need-returns-6
-unfolding openNumbers
-returns-6 c =
-    let k = c .before .before .before .before in
-    rw (enough k, ← (k .before .before .open .ensures), c .before .before .opened3 .given .1, ne-eqb _ _ (c .if3 .left))
+    let k = c .before .before .before in
+    rw (enough k, ← (k .before .before .open .ensures), c .before .opened3 .given .1)
 
 pub scanner-open-spec : {M : Type 1} → statement M
 scanner-open-spec =
@@ -111,7 +95,6 @@ scanner-open-spec =
     enum-known-opened-2
     slice-write-answer-2
     enum-known-opened-3
-    slice-write-answer-3
     same-length
     same-length-2
     same-length-3
@@ -120,7 +103,4 @@ scanner-open-spec =
     same-length-5
     returns-4
     same-length-6
-    same-length-7
-    returns-5
-    same-length-8
-    returns-6)
+    returns-5)
