@@ -38,23 +38,6 @@ fn long_word(word: &[u8]) -> u8
     IDENT
 }
 
-// The number that four bytes are, the first one lowest.
-fn four(a: u8, b: u8, c: u8, d: u8) -> u64
-    ensures { λ r. ⌜ r ≡ a + b * 0x100 + c * 0x1_0000 + d * 0x100_0000 ⌝ }
-{
-    a as u64 + b as u64 * 0x100 + c as u64 * 0x1_0000 + d as u64 * 0x100_0000
-}
-
-// The number that the first eight bytes of a text are. (Compiled, it is one load.)
-fn eight(text: &[u8]) -> u64
-    requires { ⌜ 8 ≤ length (now text) ⌝ }
-    ensures { λ r. ⌜ r ≡ numberOf (take 8 (now (text .entry))) ⌝ }
-{
-    let low = four(text[0], text[1], text[2], text[3]);
-    let high = four(text[4], text[5], text[6], text[7]);
-    low + high * 0x1_0000_0000
-}
-
 // The number whose n bytes are all ones.
 fn ones(n: usize) -> u64
     requires { ⌜ n ≤ 8 ⌝ }
@@ -70,33 +53,6 @@ fn ones(n: usize) -> u64
         7 => 0xff_ffff_ffff_ffff,
         8 => 0xffff_ffff_ffff_ffff,
         _ => 0,
-    }
-}
-
-// The number that the first n bytes of a text are, byte by byte.
-fn each(text: &[u8], n: usize) -> u64
-    requires { ⌜ (n ≤ length (now text)) × (n ≤ 8) ⌝ }
-    ensures { λ r. ⌜ r ≡ numberOf (take n (now (text .entry))) ⌝ }
-{
-    let mut i = n;
-    let mut number: u64 = 0;
-    while 0 < i {
-        i -= 1;
-        let byte = text[i] as u64;
-        number = number * 256 + byte;
-    }
-    number
-}
-
-// The number that a word of at most eight bytes is.
-fn number_of(text: &[u8], n: usize) -> u64
-    requires { ⌜ (n ≤ length (now text)) × (n ≤ 8) ⌝ }
-    ensures { λ r. ⌜ r ≡ numberOf (take n (now (text .entry))) ⌝ }
-{
-    if 8 <= text.len() {
-        eight(text) & ones(n)
-    } else {
-        each(text, n)
     }
 }
 
@@ -159,7 +115,7 @@ pub fn ident_token(text: &[u8], len: usize) -> u8
     if 8 < n {
         return long_word(&text[..n]);
     }
-    let number = number_of(text, n);
+    let number = lanes::eight(text, 0) & ones(n);
     let row = row_in(slot_of(number, n));
     if row.1 == number { row.0 } else { IDENT }
 }
