@@ -5,7 +5,8 @@ use native.Mathlib.Nat.{mod-lt, zero-lt-suc}
 use native.Mathlib.Omega.{arith}
 use lib.Arith.{digits-lt, digits-div, digits-mod}
 use lib.Bits.{bitAnd, bitOr, bitXor, and-block, or-block, xor-block}
-use lib.Dec.{lit<}
+use lib.Dec.{T, ltb, lit<, ltb→lt}
+use Rattle.basics.proofs.Every.{below, every-below}
 use Rattle.lanes.specs.Lanes.{lanes}
 use Rattle.lanes.proofs.Numbers.{byte-more}
 
@@ -72,3 +73,11 @@ module _ (f g : ℕ → ℕ) (s : Small f) (t : Small g) where
   lanes-xor (suc n) w =
       xor-block 8 _ _ (f (w % 256)) (g (w % 256)) (s (w % 256) (rest w)) (t (w % 256) (rest w))
       ∙ ap (λ x. x * 256 + bitXor (f (w % 256)) (g (w % 256))) (lanes-xor n (w / 256))
+
+pub lanes-const : (k w : ℕ) → lanes 8 (λ b. k) w ≡ k * 0x0101_0101_0101_0101
+unfolding lanes
+lanes-const k w = omega arith
+
+-- what a test computes at each byte
+pub small : (f : ℕ → ℕ) → T (below (λ b. ltb (f b) 256) 256) → Small f
+small f t b h = ltb→lt (f b) 256 (every-below (λ b. ltb (f b) 256) 256 t b h)
