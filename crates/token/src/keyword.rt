@@ -4,8 +4,9 @@ ghost use mathlib.Core.Path.{_≡_};
 ghost use Prim.Native.Nat.{_+_, _-_, _*_, _^_, _≤_, _<_, min};
 ghost use lib.ListN.{length, take};
 ghost use Rattle.basics.specs.Same.{same};
+ghost use Rattle.lanes.specs.Lanes.{numberOf};
 ghost use Rattle.token.specs.Table.{identToken, keywords};
-ghost use Rattle.token.specs.Search.{numberOf, slotOf, rowIn};
+ghost use Rattle.token.specs.Search.{slotOf, rowIn};
 
 // Whether two byte strings are the same.
 fn is_same(a: &[u8], b: &[u8]) -> bool
@@ -54,6 +55,14 @@ fn ones(n: usize) -> u64
         8 => 0xffff_ffff_ffff_ffff,
         _ => 0,
     }
+}
+
+// The number that the first n bytes of a text are.
+fn number_of(text: &[u8], n: usize) -> u64
+    requires { ⌜ n ≤ 8 ⌝ }
+    ensures { λ r. ⌜ r ≡ numberOf (take n (now (text .entry))) ⌝ }
+{
+    lanes::eight(text, 0) & ones(n)
 }
 
 // A keyword's kind, and its spelling as a number.
@@ -115,7 +124,7 @@ pub fn ident_token(text: &[u8], len: usize) -> u8
     if 8 < n {
         return long_word(&text[..n]);
     }
-    let number = lanes::eight(text, 0) & ones(n);
+    let number = number_of(text, n);
     let row = row_in(slot_of(number, n));
     if row.1 == number { row.0 } else { IDENT }
 }
