@@ -29,7 +29,7 @@ bytes-take (suc n) [] h i = lit< tt
 bytes-take (suc n) (x ∷ s) h zero = h zero
 bytes-take (suc n) (x ∷ s) h (suc i) = bytes-take n s (λ j. h (suc j)) i
 
-pub bytes-drop : (n : ℕ) (s : List ℕ) → Bytes s → Bytes (drop n s)
+bytes-drop : (n : ℕ) (s : List ℕ) → Bytes s → Bytes (drop n s)
 bytes-drop n s h i = rw getD-drop (h (n + i))
 
 pub number-next : (s : List ℕ) (i n : ℕ) → numberOf (take (suc n) (drop i s)) ≡ numberOf (take n (drop (suc i) s)) * 256 + getD s i 0
@@ -94,17 +94,14 @@ unfolding numberOf
 number-bound [] h = lit< tt
 number-bound (x ∷ s) h = rw (byte-more (length s)) (digits-lt (number-bound s (λ i. h (suc i))) (h zero))
 
-pub number-fits : (s : List ℕ) → Bytes s → length s ≤ 8 → numberOf s < 2 ^ 64
+number-fits : (s : List ℕ) → Bytes s → length s ≤ 8 → numberOf s < 2 ^ 64
 number-fits s h l = lt-of-lt-of-le (number-bound s h) (pow-mono {j = 64} (omega arith))
 
 -- the number of at most eight bytes at a text's end fits 64 bits
 pub last-fits : (s : List ℕ) (i : ℕ) → Bytes s → length s ≤ i + 8 → numberOf (drop i s) < 2 ^ 64
 last-fits s i h l = number-fits (drop i s) (bytes-drop i s h) (omega (arith, length-drop i s))
 
-pub part-fits : (s : List ℕ) (i : ℕ) → Bytes s → numberOf (take 8 (drop i s)) < 2 ^ 64
-part-fits s i h = number-fits (take 8 (drop i s)) (bytes-take 8 (drop i s) (bytes-drop i s h)) (omega (arith, length-take 8 (drop i s)))
-
-pub number-take : (n : ℕ) (s : List ℕ) → Bytes s → numberOf s % 2 ^ (8 * n) ≡ numberOf (take n s)
+number-take : (n : ℕ) (s : List ℕ) → Bytes s → numberOf s % 2 ^ (8 * n) ≡ numberOf (take n s)
 unfolding numberOf
 number-take zero s h = mod-one (numberOf s)
 number-take (suc n) [] h = zero-mod (2 ^ (8 * suc n))

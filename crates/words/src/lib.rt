@@ -25,8 +25,8 @@ pub fn is_letter(b: u8) -> bool
     b < 123
 }
 
-// For each of eight bytes 0x80 where it is no letter and no digit, else 0. The tests are the top bits of sums and differences of the
-// bytes' low seven bits; none of them reaches into the next byte.
+// For each of eight bytes 0x80 where it is no letter and no digit, else 0. A test's answer is the top bit of each byte: that of a sum
+// or a difference with the byte's low seven bits, which never reaches into the next byte.
 fn others(w: u64) -> u64
     ensures { λ r. ⌜ r ≡ lanes 8 other w ⌝ }
 {
@@ -45,7 +45,7 @@ fn run_at(src: &[u8], at: usize) -> usize
     u64::trailing_zeros(others(lanes::eight(src, at))) as usize / 8
 }
 
-// The place after the longest run of letters and digits at a place.
+// The place after the longest run of letters and digits at a place. (The loop would do without its test; with it, the load has none.)
 pub fn word_end(src: &[u8], at: usize) -> usize
     ensures { λ r. ⌜ r ≡ at + wordLen (chars (drop at (now (src .entry)))) ⌝ }
 {
