@@ -13,13 +13,14 @@ use lib.Pow.{areBytes}
 use lib.Seq.{length-take-le, take-all, take-length}
 use Rattle.basics.proofs.Choice.{cond-ind, either, and-split, and-left, and-right}
 use Rattle.basics.proofs.Every.{every-entry}
+use Rattle.lanes.specs.Lanes.{numberOf}
+use Rattle.lanes.proofs.Numbers.{Bytes, bytes-of, bytes-take, number-injective}
 use Rattle.token.specs.Kinds.{IDENT}
 use Rattle.token.specs.Table.{Row, keywords, identToken}
 use Rattle.token.specs.declared.keyword.Row.{Row as Coded}
-use Rattle.token.specs.Search.{numberOf, slotOf, slotOfWord, pair, rowIn}
+use Rattle.token.specs.Search.{slotOf, slotOfWord, pair, rowIn}
 use Rattle.token.proofs.Table.{none}
 use Rattle.token.proofs.Words.{Known, known, look, keyword-found}
-use Rattle.token.proofs.Numbers.{Bytes, bytes-of, bytes-take, number-injective}
 
 -- the code's row of a keyword
 abbrev coded : Row → Coded

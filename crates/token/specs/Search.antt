@@ -4,14 +4,10 @@ use mathlib.Core.Bool.{cond, _&&_}
 use mathlib.Core.List.{List, [], _∷_}
 use lib.Dec.{eqb, leb}
 use lib.ListN.{length}
+use Rattle.lanes.specs.Lanes.{numberOf}
 use Rattle.token.specs.Kinds.{IDENT}
 use Rattle.token.specs.Table as Table
 use Rattle.token.specs.declared.keyword.Row.{Row}
-
--- the number that bytes are, the first one lowest
-unfoldable pub numberOf : List ℕ → ℕ
-numberOf [] = 0
-numberOf (b ∷ bs) = numberOf bs * 256 + b
 
 -- the slot of a number of n bytes: by n and the first two bytes
 unfoldable pub slotOf : ℕ → ℕ → ℕ

@@ -4,8 +4,9 @@ ghost use mathlib.Core.Path.{_≡_};
 ghost use Prim.Native.Nat.{_+_, _-_, _*_, _^_, _≤_, _<_, min};
 ghost use lib.ListN.{length, take};
 ghost use Rattle.basics.specs.Same.{same};
+ghost use Rattle.lanes.specs.Lanes.{numberOf};
 ghost use Rattle.token.specs.Table.{identToken, keywords};
-ghost use Rattle.token.specs.Search.{numberOf, slotOf, rowIn};
+ghost use Rattle.token.specs.Search.{slotOf, rowIn};
 
 // Whether two byte strings are the same.
 fn is_same(a: &[u8], b: &[u8]) -> bool
@@ -38,23 +39,6 @@ fn long_word(word: &[u8]) -> u8
     IDENT
 }
 
-// The number that four bytes are, the first one lowest.
-fn four(a: u8, b: u8, c: u8, d: u8) -> u64
-    ensures { λ r. ⌜ r ≡ a + b * 0x100 + c * 0x1_0000 + d * 0x100_0000 ⌝ }
-{
-    a as u64 + b as u64 * 0x100 + c as u64 * 0x1_0000 + d as u64 * 0x100_0000
-}
-
-// The number that the first eight bytes of a text are. (Compiled, it is one load.)
-fn eight(text: &[u8]) -> u64
-    requires { ⌜ 8 ≤ length (now text) ⌝ }
-    ensures { λ r. ⌜ r ≡ numberOf (take 8 (now (text .entry))) ⌝ }
-{
-    let low = four(text[0], text[1], text[2], text[3]);
-    let high = four(text[4], text[5], text[6], text[7]);
-    low + high * 0x1_0000_0000
-}
-
 // The number whose n bytes are all ones.
 fn ones(n: usize) -> u64
     requires { ⌜ n ≤ 8 ⌝ }
@@ -73,31 +57,12 @@ fn ones(n: usize) -> u64
     }
 }
 
-// The number that the first n bytes of a text are, byte by byte.
-fn each(text: &[u8], n: usize) -> u64
-    requires { ⌜ (n ≤ length (now text)) × (n ≤ 8) ⌝ }
-    ensures { λ r. ⌜ r ≡ numberOf (take n (now (text .entry))) ⌝ }
-{
-    let mut i = n;
-    let mut number: u64 = 0;
-    while 0 < i {
-        i -= 1;
-        let byte = text[i] as u64;
-        number = number * 256 + byte;
-    }
-    number
-}
-
-// The number that a word of at most eight bytes is.
+// The number that the first n bytes of a text are.
 fn number_of(text: &[u8], n: usize) -> u64
-    requires { ⌜ (n ≤ length (now text)) × (n ≤ 8) ⌝ }
+    requires { ⌜ n ≤ 8 ⌝ }
     ensures { λ r. ⌜ r ≡ numberOf (take n (now (text .entry))) ⌝ }
 {
-    if 8 <= text.len() {
-        eight(text) & ones(n)
-    } else {
-        each(text, n)
-    }
+    lanes::eight(text, 0) & ones(n)
 }
 
 // A keyword's kind, and its spelling as a number.

@@ -1,9 +1,11 @@
 // Words: identifiers and keywords.
 ghost use mathlib.Core.Path.{_≡_};
-ghost use Prim.Native.Nat.{_+_};
+ghost use Prim.Native.Nat.{_+_, min};
 ghost use lib.ListN.{drop};
+ghost use Rattle.lanes.specs.Lanes.{lanes};
 ghost use Rattle.utf8.specs.Chars.{chars};
-ghost use Rattle.words.specs.Word.{isLetter, isWord, wordLen};
+ghost use Rattle.words.specs.Word.{isLetter, wordLen};
+ghost use Rattle.words.specs.Marks.{other};
 
 pub fn is_letter(b: u8) -> bool
     ensures { λ r. ⌜ r ≡ isLetter b ⌝ }
@@ -23,25 +25,37 @@ pub fn is_letter(b: u8) -> bool
     b < 123
 }
 
-fn is_word(b: u8) -> bool
-    ensures { λ r. ⌜ r ≡ isWord b ⌝ }
+// For each of eight bytes 0x80 where it is no letter and no digit, else 0. A test's answer is the top bit of each byte: that of a sum
+// or a difference with the byte's low seven bits, which never reaches into the next byte.
+fn others(w: u64) -> u64
+    ensures { λ r. ⌜ r ≡ lanes 8 other w ⌝ }
 {
-    if is_letter(b) {
-        return true;
-    }
-    digits::is_decimal(b)
+    let low = w & 0x7F7F_7F7F_7F7F_7F7F;
+    let lower = low | 0x2020_2020_2020_2020;
+    let letter = (lower + 0x1F1F_1F1F_1F1F_1F1F) & (0xFAFA_FAFA_FAFA_FAFA - lower);
+    let digit = (low + 0x5050_5050_5050_5050) & (0xB9B9_B9B9_B9B9_B9B9 - low);
+    let no_underscore = (low ^ 0x5F5F_5F5F_5F5F_5F5F) + 0x7F7F_7F7F_7F7F_7F7F;
+    (no_underscore & !(letter | digit) | w) & 0x8080_8080_8080_8080
 }
 
-// The place after the longest run of letters and digits at a place.
+// The length of the run of letters and digits at a place, at most eight.
+fn run_at(src: &[u8], at: usize) -> usize
+    ensures { λ r. ⌜ r ≡ min 8 (wordLen (chars (drop at (now (src .entry))))) ⌝ }
+{
+    u64::trailing_zeros(others(lanes::eight(src, at))) as usize / 8
+}
+
+// The place after the longest run of letters and digits at a place. (The loop would do without its test; with it, the load has none.)
 pub fn word_end(src: &[u8], at: usize) -> usize
     ensures { λ r. ⌜ r ≡ at + wordLen (chars (drop at (now (src .entry)))) ⌝ }
 {
     let mut p = at;
-    while p < src.len() {
-        if !is_word(src[p]) {
-            return p;
+    while lanes::has_eight(src, p) {
+        let n = run_at(src, p);
+        if n < 8 {
+            return p + n;
         }
-        p += 1;
+        p += 8;
     }
-    p
+    p + run_at(src, p)
 }

@@ -1,8 +1,8 @@
--- With eight bytes at hand a mask cuts out the first n.
+-- A mask cuts out the first n of eight bytes.
 use mathlib.Core.Path.{ap₂, _∙_}
 use borrow.Author.Needs.{needs}
 use lib.Bits.{bitAnd}
-use Rattle.token.proofs.Numbers.{number-mask}
+use Rattle.lanes.proofs.Numbers.{number-mask}
 use Rattle.token.proofs.keyword.number_of.Statement.{statement}
 use Rattle.token.proofs.keyword.number_of.Tie as tie
 
@@ -12,17 +12,11 @@ eight-requires c κs = search needs
 ones-requires : tie.Need-ones-requires
 ones-requires c κs = search needs
 
-each-requires : tie.Need-each-requires
-each-requires c κs = search needs
-
 returns : tie.Need-returns
 returns c =
-    let start = c .before .before .before .before in
+    let start = c .before .before .before in
     ap₂ bitAnd (c .before .eight .ensures) (c .ones .ensures)
-    ∙ number-mask (start .args .text .now) (start .args .n) (λ i. c .before .before .before .shared-slice-known .given i .fits) (search needs)
-
-returns-2 : tie.Need-returns-2
-returns-2 c = search needs
+    ∙ number-mask (start .args .text .now) (start .args .n) (λ i. c .before .before .shared-slice-known .given i .fits) (search needs)
 
 pub number-of-spec : {M : Type 1} → statement M
-number-of-spec = tie.close (tie.spec eight-requires ones-requires each-requires returns returns-2)
+number-of-spec = tie.close (tie.spec eight-requires ones-requires returns)

@@ -1,7 +1,8 @@
 -- Each arm's row by computation; elsewhere no keyword has the slot.
 use borrow.Author.Tests.{ne-eqb}
+use Rattle.lanes.specs.Lanes.{numberOf}
 use Rattle.token.specs.Table.{keywords}
-use Rattle.token.specs.Search.{numberOf, slotOf, rowIn}
+use Rattle.token.specs.Search.{slotOf, rowIn}
 use Rattle.token.proofs.keyword.row_in.Statement.{statement}
 use Rattle.token.proofs.keyword.row_in.Tie as tie
 
