@@ -1,0 +1,352 @@
+//! Compares the scanner, called through the Rust crate, with go/scanner: kinds, offsets, texts, values and inserted
+//! semicolons. Standard input is the stream of oracle/gotokens.go. Every difference is put down to a reason that
+//! docs/DIFFERENCES.md has; one without a reason is printed with its place, the smallest file's, and the status is 1.
+
+use cifgwezam::{Kind, Refusal, Scanner};
+use std::collections::BTreeMap;
+use std::io::{self, Read};
+use std::process::ExitCode;
+
+/// A token of either scanner. Offsets count bytes; a text is as ours has it.
+#[derive(Debug, PartialEq)]
+struct Lexeme {
+    kind: Kind,
+    offset: usize,
+    inserted: bool,
+    text: Vec<u8>,
+    value: Vec<u8>,
+    code: u32,
+}
+
+/// A token of Go's, and what only Go has of it.
+struct Theirs {
+    lexeme: Lexeme,
+    /// The text as Go gives it.
+    text: Vec<u8>,
+    /// An error was reported by its scan or before it.
+    bad: bool,
+    tilde: bool,
+}
+
+struct Stream<'a> {
+    rest: &'a [u8],
+    /// The names of Go's tokens by their numbers.
+    names: Vec<&'a [u8]>,
+}
+
+impl<'a> Stream<'a> {
+    fn new(rest: &'a [u8]) -> Stream<'a> {
+        let mut stream = Stream { rest, names: Vec::new() };
+        loop {
+            match stream.text() {
+                [] => return stream,
+                name => stream.names.push(name),
+            }
+        }
+    }
+
+    fn take(&mut self, n: usize) -> &'a [u8] {
+        let (taken, rest) = self.rest.split_at(n);
+        self.rest = rest;
+        taken
+    }
+
+    fn number(&mut self) -> usize {
+        let four = self.take(4).try_into().expect("four bytes");
+        u32::from_le_bytes(four) as usize
+    }
+
+    fn text(&mut self) -> &'a [u8] {
+        let n = self.number();
+        self.take(n)
+    }
+
+    /// The next token; none behind EOF.
+    fn token(&mut self) -> Option<Theirs> {
+        let number = self.take(1)[0];
+        if number == 255 {
+            return None;
+        }
+        let bad = self.take(1)[0] != 0;
+        let offset = self.number();
+        let name = self.names[usize::from(number)];
+        let tilde = name == b"~";
+        let kind = kind_of(name);
+        let text = self.text().to_vec();
+        let value = if kind == Kind::String { self.text().to_vec() } else { Vec::new() };
+        let code = if kind == Kind::Char { self.number() as u32 } else { 0 };
+        let inserted = kind == Kind::Semicolon && text == b"\n";
+        let lexeme = Lexeme { kind, offset, inserted, text: as_ours(kind, &text), value, code };
+        Some(Theirs { lexeme, text, bad, tilde })
+    }
+}
+
+/// Our kind of that name; `~` is no kind of ours.
+fn kind_of(name: &[u8]) -> Kind {
+    let named = Kind::ALL.iter().find(|kind| kind.name().as_bytes() == name);
+    *named.unwrap_or(&Kind::None)
+}
+
+/// What ours is to have as the text, given Go's.
+fn as_ours(kind: Kind, text: &[u8]) -> Vec<u8> {
+    match kind {
+        Kind::Comment => comment(text),
+        Kind::Int | Kind::Float | Kind::Imag => number(text),
+        Kind::Illegal | Kind::Ident | Kind::Char | Kind::String => text.to_vec(),
+        _ => Vec::new(),
+    }
+}
+
+/// No CR, and an LF behind a comment to the end of a line.
+fn comment(text: &[u8]) -> Vec<u8> {
+    let end: &[u8] = if text.starts_with(b"//") { b"\n" } else { b"" };
+    text.iter().chain(end).copied().filter(|&byte| byte != b'\r').collect()
+}
+
+/// Prefix and exponent in lower case, an o in old octal numbers.
+fn number(text: &[u8]) -> Vec<u8> {
+    let mut ours = text.to_vec();
+    if is_old_octal(text) {
+        ours.insert(1, b'o');
+    }
+    let prefixed = text.first() == Some(&b'0') && text.get(1).is_some_and(u8::is_ascii_alphabetic);
+    for (at, byte) in ours.iter_mut().enumerate() {
+        if at == 1 || !prefixed {
+            byte.make_ascii_lowercase();
+        }
+    }
+    ours
+}
+
+fn is_old_octal(text: &[u8]) -> bool {
+    text.len() > 1 && text[0] == b'0' && text[1].is_ascii_digit()
+}
+
+/// All tokens of ours, and how many errors there were.
+fn ours(source: &[u8]) -> Result<(Vec<Lexeme>, usize), Refusal> {
+    let mut scanner = Scanner::new(source)?;
+    let mut lexemes = Vec::new();
+    let (mut chars, mut bytes) = (0, 0);
+    loop {
+        let (token, pos) = scanner.scan()?;
+        while chars < pos {
+            bytes += 1;
+            let starts = source.get(bytes).map_or(true, |byte| byte & 0xc0 != 0x80);
+            chars += usize::from(starts);
+        }
+        lexemes.push(Lexeme {
+            kind: token.kind,
+            offset: bytes,
+            inserted: token.inserted,
+            text: token.text.into_owned(),
+            value: token.value.into_owned(),
+            code: token.code.map_or(0, u32::from),
+        });
+        if token.kind == Kind::Eof {
+            return Ok((lexemes, scanner.error_count()));
+        }
+    }
+}
+
+const NUMBER_TEXT: &str = "the text of a number: 017 is 0o17, prefix and e in lower case";
+const TWO_COMMENTS: &str = "a comment before another on the line: where the semicolon stands";
+const TILDE: &str = "~ is ILLEGAL";
+const HEX_FLOAT: &str = "hexadecimal floats";
+const ZERO_FLOAT: &str = "a 0 before a digit is octal even before `.`, e or i";
+const MARK: &str = "a byte order mark is ILLEGAL";
+const DOTS: &str = "two dots are ILLEGAL";
+const HIGH: &str = "a character above 127 outside comments and quotes";
+const BAD: &str = "an error by go/scanner";
+const LONG: &str = "longer than 1,048,576 bytes";
+const UTF8: &str = "not UTF-8";
+
+/// How a comparison goes on behind a difference.
+enum Way {
+    /// Both behind Go's token.
+    On(&'static str),
+    /// Ours behind one token.
+    Skip(&'static str),
+    Stop(&'static str),
+    Unexplained,
+}
+
+/// The reason of a difference.
+fn reason(ours: &Lexeme, theirs: &Theirs) -> Way {
+    let text = &theirs.text[..];
+    let number = matches!(theirs.lexeme.kind, Kind::Float | Kind::Imag);
+    let hexadecimal = text.starts_with(b"0x") || text.starts_with(b"0X");
+    if theirs.tilde && ours.kind == Kind::Illegal && ours.offset == theirs.lexeme.offset {
+        return Way::On(TILDE);
+    }
+    if number && hexadecimal && text.iter().any(|byte| b".pP".contains(byte)) {
+        return Way::On(HEX_FLOAT);
+    }
+    if number && is_old_octal(text) {
+        return Way::On(ZERO_FLOAT);
+    }
+    if ours.kind == Kind::Illegal && ours.offset == 0 && ours.text == "\u{feff}".as_bytes() {
+        return Way::Skip(MARK);
+    }
+    if matches!(theirs.lexeme.kind, Kind::Ident | Kind::Illegal) && !text.is_ascii() {
+        return Way::Stop(HIGH);
+    }
+    if ours.kind == Kind::Illegal && ours.text == b".." {
+        return Way::Stop(DOTS);
+    }
+    Way::Unexplained
+}
+
+/// What was found in all files, or in one.
+#[derive(Default)]
+struct Found {
+    /// For each reason to go on, the places.
+    passed: BTreeMap<&'static str, (usize, usize)>,
+    /// For each reason to stop or to leave a file aside, the files and the tokens that were not compared.
+    stopped: BTreeMap<&'static str, (usize, usize)>,
+    tokens: usize,
+    inserted: usize,
+}
+
+impl Found {
+    fn pass(&mut self, reason: &'static str) {
+        self.passed.entry(reason).or_insert((1, 0)).1 += 1;
+    }
+
+    fn add(&mut self, file: Found) {
+        for (from, to) in [(file.passed, &mut self.passed), (file.stopped, &mut self.stopped)] {
+            for (reason, (files, places)) in from {
+                let sum = to.entry(reason).or_default();
+                *sum = (sum.0 + files, sum.1 + places);
+            }
+        }
+        self.tokens += file.tokens;
+        self.inserted += file.inserted;
+    }
+}
+
+/// A comparison under way.
+struct Pair<'a> {
+    ours: &'a [Lexeme],
+    theirs: &'a [Theirs],
+    /// Go gave a semicolon that ours gives behind one more comment.
+    held: bool,
+    found: Found,
+}
+
+impl Pair<'_> {
+    /// Compares up to the end or to a reason to stop; else the byte offset of an unexplained difference.
+    fn run(&mut self) -> Result<(), usize> {
+        while let Some((next, after)) = self.theirs.split_first() {
+            let Some((own, rest)) = self.ours.split_first() else {
+                return Err(next.lexeme.offset);
+            };
+            if next.bad {
+                self.found.stopped.insert(BAD, (1, self.theirs.len()));
+                return Ok(());
+            }
+            if self.held && own.inserted {
+                self.held = false;
+                self.ours = rest;
+            } else if next.lexeme == *own && (!self.held || own.kind == Kind::Comment) {
+                self.same(next);
+                (self.ours, self.theirs) = (rest, after);
+            } else if next.lexeme.inserted && own.kind == Kind::Comment && own.offset == next.lexeme.offset {
+                self.found.pass(TWO_COMMENTS);
+                self.held = true;
+                self.theirs = after;
+            } else if self.step(own, next)? {
+                return Ok(());
+            }
+        }
+        if self.ours.is_empty() { Ok(()) } else { Err(self.ours[0].offset) }
+    }
+
+    fn same(&mut self, next: &Theirs) {
+        self.found.tokens += 1;
+        self.found.inserted += usize::from(next.lexeme.inserted);
+        if matches!(next.lexeme.kind, Kind::Int | Kind::Float | Kind::Imag) && next.text != next.lexeme.text {
+            self.found.pass(NUMBER_TEXT);
+        }
+    }
+
+    /// Goes on behind a difference, if there is a reason for it; true where the comparison is to stop.
+    fn step(&mut self, own: &Lexeme, next: &Theirs) -> Result<bool, usize> {
+        match reason(own, next) {
+            Way::On(reason) => {
+                self.found.pass(reason);
+                let end = next.lexeme.offset + next.text.len().max(1);
+                let behind = self.ours.iter().position(|own| own.offset >= end);
+                self.ours = &self.ours[behind.unwrap_or(self.ours.len())..];
+                self.theirs = &self.theirs[1..];
+            }
+            Way::Skip(reason) => {
+                self.found.pass(reason);
+                self.ours = &self.ours[1..];
+            }
+            Way::Stop(reason) => {
+                self.found.stopped.insert(reason, (1, self.theirs.len()));
+                return Ok(true);
+            }
+            Way::Unexplained => return Err(own.offset.min(next.lexeme.offset)),
+        }
+        Ok(false)
+    }
+}
+
+/// What the comparison of one file found; else the byte offset of an unexplained difference.
+fn file(source: &[u8], theirs: &[Theirs]) -> Result<Found, usize> {
+    let aside = |reason| Found { stopped: [(reason, (1, theirs.len()))].into(), ..Found::default() };
+    let bad = theirs.iter().any(|next| next.bad);
+    match ours(source) {
+        Ok((ours, errors)) => {
+            let mut pair = Pair { ours: &ours, theirs, held: false, found: Found::default() };
+            pair.run()?;
+            let noted = [HEX_FLOAT, ZERO_FLOAT].iter().any(|reason| pair.found.passed.contains_key(reason));
+            let whole = pair.found.stopped.is_empty();
+            if whole && !noted && errors > 0 { Err(source.len()) } else { Ok(pair.found) }
+        }
+        Err(Refusal::TooLong) if source.len() > Scanner::MAX_SOURCE => Ok(aside(LONG)),
+        Err(Refusal::NotUtf8 { .. }) if bad => Ok(aside(UTF8)),
+        Err(_) => Err(0),
+    }
+}
+
+/// All files of the stream: their number, what was found, and the unexplained ones by length, name and offset.
+fn files(stream: &mut Stream) -> (usize, Found, Vec<(usize, String, usize)>) {
+    let (mut all, mut count) = (Found::default(), 0);
+    let mut unexplained = Vec::new();
+    while !stream.rest.is_empty() {
+        let name = String::from_utf8_lossy(stream.text()).into_owned();
+        let source = stream.text();
+        let theirs: Vec<Theirs> = std::iter::from_fn(|| stream.token()).collect();
+        count += 1;
+        match file(source, &theirs) {
+            Ok(found) => all.add(found),
+            Err(offset) => unexplained.push((source.len(), name, offset)),
+        }
+    }
+    unexplained.sort();
+    (count, all, unexplained)
+}
+
+fn main() -> io::Result<ExitCode> {
+    let mut input = Vec::new();
+    io::stdin().read_to_end(&mut input)?;
+    let (count, all, unexplained) = files(&mut Stream::new(&input));
+    let stopped: usize = all.stopped.values().map(|(files, _)| files).sum();
+    println!("| beside go/scanner | files | places or tokens |\n|---|---|---|");
+    println!("| all | {count} | {} tokens the same, {} of them inserted semicolons |", all.tokens, all.inserted);
+    println!("| compared to the end | {} | |", count - stopped - unexplained.len());
+    for (reason, (files, tokens)) in &all.stopped {
+        println!("| left aside from there: {reason} | {files} | {tokens} tokens not compared |");
+    }
+    for (reason, (files, places)) in &all.passed {
+        println!("| explained: {reason} | {files} | {places} places |");
+    }
+    println!("| not explained | {} | |", unexplained.len());
+    if let Some((_, name, offset)) = unexplained.first() {
+        println!("\nThe smallest file with a difference that is not explained: {name}, at byte {offset}.");
+        return Ok(ExitCode::FAILURE);
+    }
+    Ok(ExitCode::SUCCESS)
+}
