@@ -258,7 +258,11 @@ impl Pair<'_> {
                 return Ok(());
             }
         }
-        if self.ours.is_empty() { Ok(()) } else { Err(self.ours[0].offset) }
+        if self.ours.is_empty() {
+            Ok(())
+        } else {
+            Err(self.ours[0].offset)
+        }
     }
 
     fn same(&mut self, next: &Theirs) {
@@ -303,7 +307,11 @@ fn file(source: &[u8], theirs: &[Theirs]) -> Result<Found, usize> {
             pair.run()?;
             let noted = [HEX_FLOAT, ZERO_FLOAT].iter().any(|reason| pair.found.passed.contains_key(reason));
             let whole = pair.found.stopped.is_empty();
-            if whole && !noted && errors > 0 { Err(source.len()) } else { Ok(pair.found) }
+            if whole && !noted && errors > 0 {
+                Err(source.len())
+            } else {
+                Ok(pair.found)
+            }
         }
         Err(Refusal::TooLong) if source.len() > Scanner::MAX_SOURCE => Ok(aside(LONG)),
         Err(Refusal::NotUtf8 { .. }) if bad => Ok(aside(UTF8)),
