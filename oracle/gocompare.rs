@@ -1,6 +1,6 @@
 //! Compares the scanner, called through the Rust crate, with go/scanner: kinds, offsets, texts, values and inserted
 //! semicolons. Standard input is the stream of oracle/gotokens.go. Every difference is put down to a reason that
-//! docs/DIFFERENCES.md has; one without a reason is printed with its place, the smallest file's, and the status is 1.
+//! docs/DIFFERENCES.md has; else the smallest source with one is printed with its place, and the status is 1.
 
 use cifgwezam::{Kind, Refusal, Scanner};
 use std::collections::BTreeMap;
@@ -26,6 +26,12 @@ struct Theirs {
     /// An error was reported by its scan or before it.
     bad: bool,
     tilde: bool,
+}
+
+impl Theirs {
+    fn offset(&self) -> usize {
+        self.lexeme.offset
+    }
 }
 
 struct Stream<'a> {
@@ -153,10 +159,14 @@ const TWO_COMMENTS: &str = "a comment before another on the line: where the semi
 const TILDE: &str = "~ is ILLEGAL";
 const HEX_FLOAT: &str = "hexadecimal floats";
 const ZERO_FLOAT: &str = "a 0 before a digit is octal even before `.`, e or i";
+const DIGIT: &str = "a digit outside its base before i, where go/scanner has no error";
 const MARK: &str = "a byte order mark is ILLEGAL";
 const DOTS: &str = "two dots are ILLEGAL";
 const HIGH: &str = "a character above 127 outside comments and quotes";
-const BAD: &str = "an error by go/scanner";
+const BAD: &str = "an error by both";
+const QUIET: &str = "NUL or a byte order mark in comments or quotes, where go/scanner has an error";
+const FORM: &str = "a number ends where its form ends, where go/scanner has an error";
+const ZERO_UNDERSCORE: &str = "a 0 before `_` starts a decimal, where go/scanner has an error";
 const LONG: &str = "longer than 1,048,576 bytes";
 const UTF8: &str = "not UTF-8";
 
@@ -181,8 +191,12 @@ fn reason(ours: &Lexeme, theirs: &Theirs) -> Way {
     if number && hexadecimal && text.iter().any(|byte| b".pP".contains(byte)) {
         return Way::On(HEX_FLOAT);
     }
+    if number && text.len() > 1 && b"bBoO".contains(&text[1]) {
+        return Way::Stop(DIGIT);
+    }
     if number && is_old_octal(text) {
-        return Way::On(ZERO_FLOAT);
+        // ours has `.` as its last token, which does not set the mark
+        return if text.ends_with(b".") { Way::Stop(ZERO_FLOAT) } else { Way::On(ZERO_FLOAT) };
     }
     if ours.kind == Kind::Illegal && ours.offset == 0 && ours.text == "\u{feff}".as_bytes() {
         return Way::Skip(MARK);
@@ -196,12 +210,12 @@ fn reason(ours: &Lexeme, theirs: &Theirs) -> Way {
     Way::Unexplained
 }
 
-/// What was found in all files, or in one.
+/// What was found in all sources, or in one.
 #[derive(Default)]
 struct Found {
-    /// For each reason to go on, the places.
+    /// For each reason to go on, the sources and the places.
     passed: BTreeMap<&'static str, (usize, usize)>,
-    /// For each reason to stop or to leave a file aside, the files and the tokens that were not compared.
+    /// For each reason to stop or to leave a source aside, the sources and the tokens that were not compared.
     stopped: BTreeMap<&'static str, (usize, usize)>,
     tokens: usize,
     inserted: usize,
@@ -212,15 +226,29 @@ impl Found {
         self.passed.entry(reason).or_insert((1, 0)).1 += 1;
     }
 
-    fn add(&mut self, file: Found) {
-        for (from, to) in [(file.passed, &mut self.passed), (file.stopped, &mut self.stopped)] {
-            for (reason, (files, places)) in from {
+    fn add(&mut self, one: Found) {
+        for (from, to) in [(one.passed, &mut self.passed), (one.stopped, &mut self.stopped)] {
+            for (reason, (count, places)) in from {
                 let sum = to.entry(reason).or_default();
-                *sum = (sum.0 + files, sum.1 + places);
+                *sum = (sum.0 + count, sum.1 + places);
             }
         }
-        self.tokens += file.tokens;
-        self.inserted += file.inserted;
+        self.tokens += one.tokens;
+        self.inserted += one.inserted;
+    }
+}
+
+impl Found {
+    /// Holds errors against each other. Where Go has one, ours has one, too (it is not silent), or there is a reason for
+    /// silence; where Go has none, so has ours, but for numbers that Go reads and ours does not.
+    fn judged(mut self, silent: bool, errors: usize, reason: Option<&'static str>) -> Option<Found> {
+        if let (true, Some(count)) = (silent, self.stopped.get(BAD).copied()) {
+            self.stopped.remove(BAD);
+            self.stopped.insert(reason?, count);
+        }
+        let numbers = [HEX_FLOAT, ZERO_FLOAT].iter().any(|reason| self.passed.contains_key(reason));
+        let explained = errors == 0 || numbers || !self.stopped.is_empty();
+        explained.then_some(self)
     }
 }
 
@@ -230,6 +258,8 @@ struct Pair<'a> {
     theirs: &'a [Theirs],
     /// Go gave a semicolon that ours gives behind one more comment.
     held: bool,
+    /// Only comments came since a `~`, which keeps the mark of ours and clears Go's.
+    tilde: bool,
     found: Found,
 }
 
@@ -244,8 +274,8 @@ impl Pair<'_> {
                 self.found.stopped.insert(BAD, (1, self.theirs.len()));
                 return Ok(());
             }
-            if self.held && own.inserted {
-                self.held = false;
+            if own.inserted && (self.held || self.tilde && !next.lexeme.inserted) {
+                (self.held, self.tilde) = (false, false);
                 self.ours = rest;
             } else if next.lexeme == *own && (!self.held || own.kind == Kind::Comment) {
                 self.same(next);
@@ -268,6 +298,7 @@ impl Pair<'_> {
     fn same(&mut self, next: &Theirs) {
         self.found.tokens += 1;
         self.found.inserted += usize::from(next.lexeme.inserted);
+        self.tilde &= next.lexeme.kind == Kind::Comment;
         if matches!(next.lexeme.kind, Kind::Int | Kind::Float | Kind::Imag) && next.text != next.lexeme.text {
             self.found.pass(NUMBER_TEXT);
         }
@@ -278,10 +309,17 @@ impl Pair<'_> {
         match reason(own, next) {
             Way::On(reason) => {
                 self.found.pass(reason);
+                self.tilde = next.tilde;
                 let end = next.lexeme.offset + next.text.len().max(1);
                 let behind = self.ours.iter().position(|own| own.offset >= end);
                 self.ours = &self.ours[behind.unwrap_or(self.ours.len())..];
                 self.theirs = &self.theirs[1..];
+                // ours may have read the next token of Go's as the end of its own
+                let together = self.ours.first().map(|own| own.offset) == self.theirs.first().map(Theirs::offset);
+                if !together && !next.tilde {
+                    self.found.stopped.insert(reason, (1, self.theirs.len()));
+                    return Ok(true);
+                }
             }
             Way::Skip(reason) => {
                 self.found.pass(reason);
@@ -297,63 +335,78 @@ impl Pair<'_> {
     }
 }
 
-/// What the comparison of one file found; else the byte offset of an unexplained difference.
-fn file(source: &[u8], theirs: &[Theirs]) -> Result<Found, usize> {
+/// Why Go has an error at a token and ours has none in all the source.
+fn lenient(source: &[u8], bad: &Theirs) -> Option<&'static str> {
+    let has = |bytes: &[u8]| source.windows(bytes.len()).any(|part| part == bytes);
+    if has(b"\0") || has("\u{feff}".as_bytes()) {
+        Some(QUIET)
+    } else if matches!(bad.lexeme.kind, Kind::Int | Kind::Float | Kind::Imag) {
+        Some(if bad.text.starts_with(b"0_") { ZERO_UNDERSCORE } else { FORM })
+    } else {
+        None
+    }
+}
+
+/// What the comparison of one source found; else the byte offset of an unexplained difference.
+fn source(source: &[u8], theirs: &[Theirs]) -> Result<Found, usize> {
     let aside = |reason| Found { stopped: [(reason, (1, theirs.len()))].into(), ..Found::default() };
-    let bad = theirs.iter().any(|next| next.bad);
+    let bad = theirs.iter().find(|next| next.bad);
     match ours(source) {
         Ok((ours, errors)) => {
-            let mut pair = Pair { ours: &ours, theirs, held: false, found: Found::default() };
+            let mut pair = Pair { ours: &ours, theirs, held: false, tilde: false, found: Found::default() };
             pair.run()?;
-            let noted = [HEX_FLOAT, ZERO_FLOAT].iter().any(|reason| pair.found.passed.contains_key(reason));
-            let whole = pair.found.stopped.is_empty();
-            if whole && !noted && errors > 0 {
-                Err(source.len())
-            } else {
-                Ok(pair.found)
-            }
+            let silent = errors == 0 && ours.iter().all(|own| own.kind != Kind::Illegal);
+            pair.found.judged(silent, errors, bad.and_then(|bad| lenient(source, bad))).ok_or(source.len())
         }
         Err(Refusal::TooLong) if source.len() > Scanner::MAX_SOURCE => Ok(aside(LONG)),
-        Err(Refusal::NotUtf8 { .. }) if bad => Ok(aside(UTF8)),
+        Err(Refusal::NotUtf8 { .. }) if bad.is_some() => Ok(aside(UTF8)),
         Err(_) => Err(0),
     }
 }
 
-/// All files of the stream: their number, what was found, and the unexplained ones by length, name and offset.
-fn files(stream: &mut Stream) -> (usize, Found, Vec<(usize, String, usize)>) {
+/// All sources of the stream: their number, what was found, and the unexplained ones by length, name and offset.
+fn sources(stream: &mut Stream) -> (usize, Found, Vec<(usize, String, usize)>) {
     let (mut all, mut count) = (Found::default(), 0);
     let mut unexplained = Vec::new();
     while !stream.rest.is_empty() {
         let name = String::from_utf8_lossy(stream.text()).into_owned();
-        let source = stream.text();
+        let bytes = stream.text();
         let theirs: Vec<Theirs> = std::iter::from_fn(|| stream.token()).collect();
         count += 1;
-        match file(source, &theirs) {
+        match source(bytes, &theirs) {
             Ok(found) => all.add(found),
-            Err(offset) => unexplained.push((source.len(), name, offset)),
+            Err(offset) => unexplained.push((bytes.len(), format!("{name}{}", shown(bytes)), offset)),
         }
     }
     unexplained.sort();
     (count, all, unexplained)
 }
 
+/// A short source, to be printed.
+fn shown(source: &[u8]) -> String {
+    if source.len() > 80 {
+        return String::new();
+    }
+    format!(" ({})", source.escape_ascii())
+}
+
 fn main() -> io::Result<ExitCode> {
     let mut input = Vec::new();
     io::stdin().read_to_end(&mut input)?;
-    let (count, all, unexplained) = files(&mut Stream::new(&input));
-    let stopped: usize = all.stopped.values().map(|(files, _)| files).sum();
-    println!("| beside go/scanner | files | places or tokens |\n|---|---|---|");
+    let (count, all, unexplained) = sources(&mut Stream::new(&input));
+    let stopped: usize = all.stopped.values().map(|(count, _)| count).sum();
+    println!("| beside go/scanner | sources | tokens or places |\n|---|---|---|");
     println!("| all | {count} | {} tokens the same, {} of them inserted semicolons |", all.tokens, all.inserted);
     println!("| compared to the end | {} | |", count - stopped - unexplained.len());
-    for (reason, (files, tokens)) in &all.stopped {
-        println!("| left aside from there: {reason} | {files} | {tokens} tokens not compared |");
+    for (reason, (count, tokens)) in &all.stopped {
+        println!("| left aside from there: {reason} | {count} | {tokens} tokens not compared |");
     }
-    for (reason, (files, places)) in &all.passed {
-        println!("| explained: {reason} | {files} | {places} places |");
+    for (reason, (count, places)) in &all.passed {
+        println!("| explained: {reason} | {count} | {places} places |");
     }
     println!("| not explained | {} | |", unexplained.len());
     if let Some((_, name, offset)) = unexplained.first() {
-        println!("\nThe smallest file with a difference that is not explained: {name}, at byte {offset}.");
+        println!("\nThe smallest source with a difference that is not explained: {name}, at byte {offset}.");
         return Ok(ExitCode::FAILURE);
     }
     Ok(ExitCode::SUCCESS)

@@ -1,6 +1,7 @@
-// Writes what go/scanner, with comments, reads in every .go file under a folder, for oracle/gocompare.rs.
+// Writes what go/scanner, with comments, reads in every .go file under a folder, or in every input of oracle/generate
+// on standard input, for oracle/gocompare.rs.
 //
-// gotokens ROOT
+// gotokens [ROOT]
 //
 // The stream: for each token of go/token its name (a length and bytes), a length 0; then for each file its path
 // and its bytes, each with its length; its tokens; the byte 255. A token is its number (one byte), 1 where an
@@ -11,8 +12,10 @@ package main
 import (
 	"bufio"
 	"encoding/binary"
+	"fmt"
 	"go/scanner"
 	"go/token"
+	"io"
 	"io/fs"
 	"log"
 	"os"
@@ -78,12 +81,16 @@ func (s stream) tokens(path string, src []byte) {
 	}
 }
 
-func main() {
-	log.SetFlags(0)
-	s := stream{bufio.NewWriterSize(os.Stdout, 1<<20)}
-	s.names()
-	root := os.Args[1] + "/"
-	err := filepath.WalkDir(root, func(path string, entry fs.DirEntry, err error) error {
+func (s stream) source(name string, src []byte) {
+	s.text(name)
+	s.text(string(src))
+	s.tokens(name, src)
+}
+
+// The .go files under a folder.
+func (s stream) tree(root string) error {
+	root += "/"
+	return filepath.WalkDir(root, func(path string, entry fs.DirEntry, err error) error {
 		if err != nil || entry.IsDir() || filepath.Ext(path) != ".go" {
 			return err
 		}
@@ -92,11 +99,40 @@ func main() {
 			return err
 		}
 		name, _ := filepath.Rel(root, path)
-		s.text(name)
-		s.text(string(src))
-		s.tokens(name, src)
+		s.source(name, src)
 		return nil
 	})
+}
+
+// The inputs of oracle/generate: a length, a size, which is not asked for here, and the bytes.
+func (s stream) frames(input io.Reader) error {
+	for n := 1; ; n++ {
+		var head [2]uint32
+		err := binary.Read(input, binary.LittleEndian, &head)
+		if err == io.EOF {
+			return nil
+		}
+		src := make([]byte, head[0])
+		if err == nil {
+			_, err = io.ReadFull(input, src)
+		}
+		if err != nil {
+			return err
+		}
+		s.source(fmt.Sprint("input ", n), src)
+	}
+}
+
+func main() {
+	log.SetFlags(0)
+	s := stream{bufio.NewWriterSize(os.Stdout, 1<<20)}
+	s.names()
+	var err error
+	if len(os.Args) > 1 {
+		err = s.tree(os.Args[1])
+	} else {
+		err = s.frames(bufio.NewReaderSize(os.Stdin, 1<<20))
+	}
 	if err == nil {
 		err = s.Flush()
 	}
