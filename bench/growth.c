@@ -11,6 +11,8 @@
 
 enum { SIZES = 5, LEAST = 65536, MOST = LEAST << (SIZES - 1), ROUNDS = 40, TRIES = 3 };
 
+#define KNOWN "no: the line of an error is searched for from the first line"
+
 /* A source is the head, then the unit again and again, then the tail. */
 struct shape {
     const char *name, *head, *unit, *tail;
@@ -87,7 +89,7 @@ static int in_proportion(const double *best)
     return best[SIZES - 1] <= 24 * best[0];
 }
 
-/* Prints the row of a shape, measured anew a few times where it does not look right; whether its cost grew in proportion. */
+/* Prints the row of a shape, measured anew where it does not look right; whether its cost grew in proportion. */
 static int row(const struct shape *shape)
 {
     double best[SIZES] = {1e18, 1e18, 1e18, 1e18, 1e18};
@@ -101,7 +103,7 @@ static int row(const struct shape *shape)
         printf(" %.2f |", best[i] / (double)((size_t)LEAST << i));
     for (i = 1; i < SIZES; i++)
         printf("%s%.2f", i == 1 ? " " : ", ", best[i] / best[i - 1]);
-    printf(" | %s |\n", linear ? "yes" : shape->known ? "no: the line of an error is searched for from the first line" : "no");
+    printf(" | %s |\n", linear ? "yes" : shape->known ? KNOWN : "no");
     fflush(stdout);
     return linear;
 }
@@ -110,7 +112,8 @@ int main(void)
 {
     size_t i;
     int failed = 0;
-    printf("Nanoseconds a byte of opening and scanning to EOF, through the C functions, the best of up to %d passes:\n\n", ROUNDS);
+    printf("Nanoseconds a byte of opening and scanning to EOF, through the C functions, the best of up to %d passes:\n\n",
+           ROUNDS);
     printf("| source | 64 KB | 128 KB | 256 KB | 512 KB | 1 MB | time at each doubling | in proportion |\n");
     printf("|---|---|---|---|---|---|---|---|\n");
     for (i = 0; i < sizeof shapes / sizeof *shapes; i++)

@@ -137,7 +137,7 @@ fn ours(source: &[u8]) -> Result<(Vec<Lexeme>, usize), Refusal> {
         let (token, pos) = scanner.scan()?;
         while chars < pos {
             bytes += 1;
-            let starts = source.get(bytes).map_or(true, |byte| byte & 0xc0 != 0x80);
+            let starts = source.get(bytes).is_none_or(|byte| byte & 0xc0 != 0x80);
             chars += usize::from(starts);
         }
         lexemes.push(Lexeme {
@@ -182,32 +182,34 @@ enum Way {
 
 /// The reason of a difference.
 fn reason(ours: &Lexeme, theirs: &Theirs) -> Way {
-    let text = &theirs.text[..];
-    let number = matches!(theirs.lexeme.kind, Kind::Float | Kind::Imag);
-    let hexadecimal = text.starts_with(b"0x") || text.starts_with(b"0X");
-    if theirs.tilde && ours.kind == Kind::Illegal && ours.offset == theirs.lexeme.offset {
-        return Way::On(TILDE);
-    }
-    if number && hexadecimal && text.iter().any(|byte| b".pP".contains(byte)) {
-        return Way::On(HEX_FLOAT);
-    }
-    if number && text.len() > 1 && b"bBoO".contains(&text[1]) {
-        return Way::Stop(DIGIT);
-    }
-    if number && is_old_octal(text) {
-        // ours has `.` as its last token, which does not set the mark
-        return if text.ends_with(b".") { Way::Stop(ZERO_FLOAT) } else { Way::On(ZERO_FLOAT) };
-    }
     if ours.kind == Kind::Illegal && ours.offset == 0 && ours.text == "\u{feff}".as_bytes() {
         return Way::Skip(MARK);
     }
-    if matches!(theirs.lexeme.kind, Kind::Ident | Kind::Illegal) && !text.is_ascii() {
-        return Way::Stop(HIGH);
+    if ours.offset != theirs.offset() {
+        return Way::Unexplained;
     }
-    if ours.kind == Kind::Illegal && ours.text == b".." {
-        return Way::Stop(DOTS);
+    match theirs.lexeme.kind {
+        Kind::Float | Kind::Imag => number_reason(&theirs.text),
+        Kind::Ident | Kind::Illegal if !theirs.text.is_ascii() => Way::Stop(HIGH),
+        _ if ours.kind == Kind::Illegal && theirs.tilde => Way::On(TILDE),
+        Kind::Period if ours.kind == Kind::Illegal && ours.text == b".." => Way::Stop(DOTS),
+        _ => Way::Unexplained,
     }
-    Way::Unexplained
+}
+
+/// The reason of a difference at a FLOAT or IMAG of Go's.
+fn number_reason(text: &[u8]) -> Way {
+    let (first, rest) = (text.first().copied().unwrap_or(0), text.get(1..).unwrap_or(&[]));
+    let outside = |last: u8| rest.iter().any(|digit| digit.is_ascii_digit() && *digit > last);
+    match rest.first().map(u8::to_ascii_lowercase) {
+        Some(b'x') if first == b'0' && rest.iter().any(|byte| b".pP".contains(byte)) => Way::On(HEX_FLOAT),
+        Some(b'b') if first == b'0' && outside(b'1') => Way::Stop(DIGIT),
+        Some(b'o') if first == b'0' && outside(b'7') => Way::Stop(DIGIT),
+        // ours has `.` as its last token, which does not set the mark
+        _ if is_old_octal(text) && text.ends_with(b".") => Way::Stop(ZERO_FLOAT),
+        _ if is_old_octal(text) => Way::On(ZERO_FLOAT),
+        _ => Way::Unexplained,
+    }
 }
 
 /// What was found in all sources, or in one.
@@ -236,9 +238,7 @@ impl Found {
         self.tokens += one.tokens;
         self.inserted += one.inserted;
     }
-}
 
-impl Found {
     /// Holds errors against each other. Where Go has one, ours has one, too (it is not silent), or there is a reason for
     /// silence; where Go has none, so has ours, but for numbers that Go reads and ours does not.
     fn judged(mut self, silent: bool, errors: usize, reason: Option<&'static str>) -> Option<Found> {
@@ -274,7 +274,7 @@ impl Pair<'_> {
                 self.found.stopped.insert(BAD, (1, self.theirs.len()));
                 return Ok(());
             }
-            if own.inserted && (self.held || self.tilde && !next.lexeme.inserted) {
+            if own.inserted && self.is_due(own, next) {
                 (self.held, self.tilde) = (false, false);
                 self.ours = rest;
             } else if next.lexeme == *own && (!self.held || own.kind == Kind::Comment) {
@@ -293,6 +293,15 @@ impl Pair<'_> {
         } else {
             Err(self.ours[0].offset)
         }
+    }
+
+    /// Whether ours is to have a semicolon here that Go does not have here: one that was held, before the line's last
+    /// comment, or one behind a `~`.
+    fn is_due(&self, own: &Lexeme, next: &Theirs) -> bool {
+        if self.held {
+            return next.lexeme.kind == Kind::Comment && own.offset == next.offset();
+        }
+        self.tilde && !next.lexeme.inserted
     }
 
     fn same(&mut self, next: &Theirs) {

@@ -308,9 +308,10 @@ static void call_error(struct world *w, size_t index)
 /* Bytes of a source: pieces of Go; in some sources random bytes and pieces that are not UTF-8, too. */
 static void write_source(struct lent *src)
 {
-    static const char *const pieces[] = {"x", "017", "0X1F", "08", "1__0", "1E3", "'a'", "''", "'ab'", "\"a\\n\"", "\"\\400\"", "\"\\k",
-                                         "`a\r\n`", "`", "// c\r\n", "/* c */", "/*\n*/", "/*", "..", "...", "<<=", "return", ")",
-                                         "\n", "\r\n", " ", "\t", "~", "\xc3\xa9", "\xf0\x9f\xa7\xac", "\xff", "\xed\xa0\x80"};
+    static const char *const pieces[] = {
+        "x", "017", "0X1F", "08", "1__0", "1E3", "'a'", "''", "'ab'", "\"a\\n\"", "\"\\400\"", "\"\\k", "`a\r\n`", "`",
+        "// c\r\n", "/* c */", "/*\n*/", "/*", "..", "...", "<<=", "return", ")", "\n", "\r\n", " ", "\t", "~",
+        "\xc3\xa9", "\xf0\x9f\xa7\xac", "\xff", "\xed\xa0\x80"};
     enum { NOT_UTF8 = 2 };
     size_t at = 0, wild = below(6) == 0, count = sizeof pieces / sizeof *pieces - (wild ? 0 : NOT_UTF8);
     while (at < src->bytes) {
@@ -409,14 +410,16 @@ static void all_lengths(size_t state, size_t token)
     w.token = make(token, sizeof(size_t));
     w.answer = make(token, sizeof(size_t));
     memcpy(bytes_of(&w.src), "017 x", 5);
-    check(call_open(&w, 0, 5) == (state < SCANNER_STATE_LEN || token < 1 ? SCANNER_DOES_NOT_FIT : SCANNER_OK), "a length at opening");
+    check(call_open(&w, 0, 5) == (state < SCANNER_STATE_LEN || token < 1 ? SCANNER_DOES_NOT_FIT : SCANNER_OK),
+          "a length at opening");
     for (i = 0; i < state && i < SCANNER_STATE_LEN; i++)
         numbers_of(&w.state)[i] = fresh[i];
     numbers_of(&w.table)[0] = 0;
     call_position(&w, 0);
     call_line_start(&w, 1);
     call_error(&w, 0);
-    check(call_scan(&w) == (state < SCANNER_STATE_LEN || token < SCANNER_TOKEN_LEN ? SCANNER_DOES_NOT_FIT : SCANNER_OK), "a length at a scan");
+    check(call_scan(&w) == (state < SCANNER_STATE_LEN || token < SCANNER_TOKEN_LEN ? SCANNER_DOES_NOT_FIT : SCANNER_OK),
+          "a length at a scan");
     drop_all(&w);
 }
 
@@ -437,7 +440,10 @@ static void small_buffers(size_t table, size_t list, size_t area)
     check(answer == (table < 1 ? SCANNER_TABLE_FULL : SCANNER_OK), "a table at opening");
     if (answer == SCANNER_OK) {
         answer = call_scan(&w);
-        check(answer == (table < 2 ? SCANNER_TABLE_FULL : list < 4 ? SCANNER_LIST_FULL : area < 2 ? SCANNER_AREA_FULL : SCANNER_OK),
+        check(answer == (table < 2 ? SCANNER_TABLE_FULL
+                         : list < 4 ? SCANNER_LIST_FULL
+                         : area < 2 ? SCANNER_AREA_FULL
+                                    : SCANNER_OK),
               "the first buffer that is too small");
     }
     drop_all(&w);
