@@ -1,6 +1,6 @@
 // Times go/scanner, with comments, for bench/scan.rs. For each line on standard input, the number of a file among the
 // arguments, it makes a few passes over that file, from opening to EOF, and answers with the number of tokens, EOF among
-// them, and the nanoseconds of the quickest pass.
+// them, and the nanoseconds that its thread ran in the quickest pass.
 package main
 
 import (
@@ -10,8 +10,10 @@ import (
 	"go/token"
 	"log"
 	"os"
+	"runtime"
 	"strconv"
-	"time"
+	"syscall"
+	"unsafe"
 )
 
 const passes = 5
@@ -30,11 +32,19 @@ func pass(src []byte) int {
 	}
 }
 
-func best(src []byte) (tokens int, least time.Duration) {
+// The time that this thread has run, in nanoseconds.
+func now() int64 {
+	const threadTime = 3
+	var time syscall.Timespec
+	syscall.RawSyscall(syscall.SYS_CLOCK_GETTIME, threadTime, uintptr(unsafe.Pointer(&time)), 0)
+	return time.Nano()
+}
+
+func best(src []byte) (tokens int, least int64) {
 	for i := 0; i < passes; i++ {
-		start := time.Now()
+		start := now()
 		tokens = pass(src)
-		if taken := time.Since(start); i == 0 || taken < least {
+		if taken := now() - start; i == 0 || taken < least {
 			least = taken
 		}
 	}
@@ -42,6 +52,7 @@ func best(src []byte) (tokens int, least time.Duration) {
 }
 
 func main() {
+	runtime.LockOSThread()
 	var sources [][]byte
 	for _, name := range os.Args[1:] {
 		src, err := os.ReadFile(name)
@@ -57,6 +68,6 @@ func main() {
 			log.Fatal("goscan: no file ", lines.Text())
 		}
 		tokens, least := best(sources[i])
-		fmt.Println(tokens, least.Nanoseconds())
+		fmt.Println(tokens, least)
 	}
 }

@@ -7,7 +7,6 @@
 #include <stdio.h>
 #include <stdlib.h>
 #include <string.h>
-#include <time.h>
 
 enum { SIZES = 5, LEAST = 65536, MOST = LEAST << (SIZES - 1), ROUNDS = 40, TRIES = 3 };
 
@@ -45,31 +44,23 @@ static void make(const struct shape *shape, size_t len)
     memset(source + at + tail, ' ', len - at - tail);
 }
 
-/* The time that this thread has run, in nanoseconds: what else runs on the machine is not counted. */
-static double now(void)
-{
-    struct timespec time;
-    clock_gettime(CLOCK_THREAD_CPUTIME_ID, &time);
-    return (double)time.tv_sec * 1e9 + (double)time.tv_nsec;
-}
-
 static double one_pass(size_t len)
 {
     size_t sum;
-    double start = now();
+    double start = thread_time();
     if (pass((const uint8_t *)source, len, &sum) == 0) {
         fprintf(stderr, "growth: a source of %zu bytes was refused\n", len);
         exit(1);
     }
-    return now() - start;
+    return thread_time() - start;
 }
 
 /* The best of many passes for each size, the sizes in turn; a slow shape is given fewer. */
 static void measure(const struct shape *shape, double *best)
 {
-    double start = now();
+    double start = thread_time();
     int round, i;
-    for (round = 0; round < ROUNDS && (round < 2 || now() - start < 3e9); round++)
+    for (round = 0; round < ROUNDS && (round < 2 || thread_time() - start < 3e9); round++)
         for (i = 0; i < SIZES; i++) {
             size_t len = (size_t)LEAST << i;
             double taken;

@@ -1,6 +1,8 @@
 #include "pass.h"
 #include "scanner.h"
 
+#include <time.h>
+
 static size_t table[SCANNER_MAX_SOURCE + 1];
 static size_t list[SCANNER_ERROR_LEN * (SCANNER_MAX_SOURCE + 1)];
 static uint8_t area[2 * (SCANNER_MAX_SOURCE + 1)];
@@ -21,4 +23,11 @@ size_t pass(const uint8_t *src, size_t len, size_t *sum)
         *sum += token[SCANNER_TOKEN_POSITION] + scanner_text(token, src, area).len;
     } while (token[SCANNER_TOKEN_KIND] != SCANNER_KIND_EOF);
     return tokens;
+}
+
+double thread_time(void)
+{
+    struct timespec time;
+    clock_gettime(CLOCK_THREAD_CPUTIME_ID, &time);
+    return (double)time.tv_sec * 1e9 + (double)time.tv_nsec;
 }

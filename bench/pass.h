@@ -11,4 +11,7 @@
  */
 size_t pass(const uint8_t *src, size_t len, size_t *sum);
 
+/* The time that this thread has run, in nanoseconds: what else runs on the machine is not counted. */
+double thread_time(void);
+
 #endif

@@ -17,7 +17,6 @@ use std::error::Error;
 use std::hint::black_box;
 use std::io::{BufRead, BufReader, Write};
 use std::process::{Child, ChildStdin, ChildStdout, Command, Stdio};
-use std::time::Instant;
 
 const ROUNDS: usize = 20;
 const PASSES: usize = 5;
@@ -29,6 +28,13 @@ type Outcome<T> = Result<T, Box<dyn Error>>;
 extern "C" {
     /// bench/pass.c.
     fn pass(src: *const u8, len: usize, sum: *mut usize) -> usize;
+    fn thread_time() -> f64;
+}
+
+/// The time that this thread has run, in nanoseconds.
+fn now() -> f64 {
+    // SAFETY: it reads a clock.
+    unsafe { thread_time() }
 }
 
 fn through_c(source: &str) -> usize {
@@ -87,9 +93,9 @@ fn best(pass: Pass, source: &str) -> (usize, f64) {
     let mut least = f64::INFINITY;
     let mut tokens = 0;
     for _ in 0..PASSES {
-        let start = Instant::now();
+        let start = now();
         tokens = black_box(pass(black_box(source)));
-        least = least.min(start.elapsed().as_nanos() as f64);
+        least = least.min(now() - start);
     }
     (tokens, least)
 }
@@ -194,7 +200,7 @@ fn print_table(texts: &[Text]) {
     let names: Vec<&str> = SCANNERS.iter().map(|(name, _)| *name).chain([GO]).take(count).collect();
     let ratios: Vec<String> = names[1..].iter().map(|name| format!("{name} : C functions")).collect();
     println!(
-        "Nanoseconds a token and millions of bytes a second, opening and scanning to EOF, the quickest of {} passes:\n",
+        "Nanoseconds a token and millions of bytes a second, opening and scanning to EOF, time of the scanning thread, the quickest of {} passes:\n",
         ROUNDS * PASSES
     );
     println!("| source | bytes | tokens | {} | {} |", names.join(" | "), ratios.join(" | "));
