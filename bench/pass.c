@@ -1,0 +1,33 @@
+#include "pass.h"
+#include "scanner.h"
+
+#include <time.h>
+
+static size_t table[SCANNER_MAX_SOURCE + 1];
+static size_t list[SCANNER_ERROR_LEN * (SCANNER_MAX_SOURCE + 1)];
+static uint8_t area[2 * (SCANNER_MAX_SOURCE + 1)];
+
+#define LEN(array) (sizeof(array) / sizeof *(array))
+
+size_t pass(const uint8_t *src, size_t len, size_t *sum)
+{
+    size_t state[SCANNER_STATE_LEN], token[SCANNER_TOKEN_LEN], chars, tokens = 0;
+    if (scanner_open(src, len, 0, len, table, LEN(table), state, LEN(state), &chars, 1) != SCANNER_OK)
+        return 0;
+    *sum = 0;
+    do {
+        if (scanner_scan(src, len, state, LEN(state), table, LEN(table), list, LEN(list), area, LEN(area),
+                         token, LEN(token)) != SCANNER_OK)
+            return 0;
+        tokens++;
+        *sum += token[SCANNER_TOKEN_POSITION] + scanner_text(token, src, area).len;
+    } while (token[SCANNER_TOKEN_KIND] != SCANNER_KIND_EOF);
+    return tokens;
+}
+
+double thread_time(void)
+{
+    struct timespec time;
+    clock_gettime(CLOCK_THREAD_CPUTIME_ID, &time);
+    return (double)time.tv_sec * 1e9 + (double)time.tv_nsec;
+}

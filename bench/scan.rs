@@ -1,0 +1,245 @@
+//! Times opening a source and scanning it to EOF: ours through the C functions, ours through the Rust crate, the original
+//! and, where its program is given, go/scanner. In each round each of them makes a few passes over each source, in turn;
+//! the quickest pass counts.
+//!
+//! scan [--go PROGRAM] NAME=FILE..
+//! scan --plain FILE..    prints the names of the files that have no ILLEGAL token, as one with a letter above 127 has
+
+#[allow(dead_code)]
+mod original {
+    pub mod errors;
+    pub mod position;
+    pub mod scanner;
+    pub mod token;
+}
+
+use std::error::Error;
+use std::hint::black_box;
+use std::io::{BufRead, BufReader, Write};
+use std::process::{Child, ChildStdin, ChildStdout, Command, Stdio};
+
+const ROUNDS: usize = 20;
+const PASSES: usize = 5;
+
+/// The number of tokens of a source, EOF among them.
+type Pass = fn(&str) -> usize;
+type Outcome<T> = Result<T, Box<dyn Error>>;
+
+extern "C" {
+    /// bench/pass.c.
+    fn pass(src: *const u8, len: usize, sum: *mut usize) -> usize;
+    fn thread_time() -> f64;
+}
+
+/// The time that this thread has run, in nanoseconds.
+fn now() -> f64 {
+    // SAFETY: it reads a clock.
+    unsafe { thread_time() }
+}
+
+fn through_c(source: &str) -> usize {
+    let mut sum = 0;
+    // SAFETY: pointer and length are those of a slice, and the sum is a number of our own.
+    let tokens = unsafe { pass(source.as_ptr(), source.len(), &mut sum) };
+    black_box(sum);
+    tokens
+}
+
+fn through_crate(source: &str) -> usize {
+    use cifgwezam::{Kind, Scanner};
+    let mut scanner = Scanner::new(source.as_bytes()).expect("a source that can be opened");
+    let (mut tokens, mut sum) = (0, 0);
+    loop {
+        let (token, pos) = scanner.scan().expect("a token");
+        tokens += 1;
+        sum += pos + token.text.len();
+        if token.kind == Kind::Eof {
+            black_box(sum);
+            return tokens;
+        }
+    }
+}
+
+/// Whether the source has no ILLEGAL token.
+fn is_plain(source: &str) -> bool {
+    use cifgwezam::{Kind, Scanner};
+    let Ok(mut scanner) = Scanner::new(source.as_bytes()) else {
+        return false;
+    };
+    let plain = scanner.tokens().all(|scanned| matches!(scanned, Ok((token, _)) if token.kind != Kind::Illegal));
+    plain
+}
+
+fn by_original(source: &str) -> usize {
+    use original::{errors::ErrorList, position::FileSet, scanner::Scanner, token::Token};
+    let mut files = FileSet::new();
+    let errors = ErrorList::new();
+    let file = files.add_file(String::new(), Some(0), source.len());
+    let mut scanner = Scanner::new(file, source, &errors);
+    let (mut tokens, mut sum) = (0, 0);
+    loop {
+        let (token, pos) = scanner.scan();
+        tokens += 1;
+        sum += pos;
+        if black_box(token) == Token::EOF {
+            black_box(sum);
+            return tokens;
+        }
+    }
+}
+
+/// Number of tokens and nanoseconds of the quickest of a few passes.
+fn best(pass: Pass, source: &str) -> (usize, f64) {
+    let mut least = f64::INFINITY;
+    let mut tokens = 0;
+    for _ in 0..PASSES {
+        let start = now();
+        tokens = black_box(pass(black_box(source)));
+        least = least.min(now() - start);
+    }
+    (tokens, least)
+}
+
+/// The program for go/scanner, which waits for the number of a source.
+struct Go {
+    child: Child,
+    ask: ChildStdin,
+    answers: BufReader<ChildStdout>,
+}
+
+impl Go {
+    fn start(program: &str, texts: &[Text]) -> Outcome<Go> {
+        let files = texts.iter().map(|text| &text.file);
+        let mut child = Command::new(program).args(files).stdin(Stdio::piped()).stdout(Stdio::piped()).spawn()?;
+        let ask = child.stdin.take().ok_or("no input")?;
+        let answers = BufReader::new(child.stdout.take().ok_or("no output")?);
+        Ok(Go { child, ask, answers })
+    }
+
+    fn best(&mut self, index: usize) -> Outcome<(usize, f64)> {
+        writeln!(self.ask, "{index}")?;
+        let mut line = String::new();
+        self.answers.read_line(&mut line)?;
+        let (tokens, least) = line.trim().split_once(' ').ok_or("no answer by go/scanner")?;
+        Ok((tokens.parse()?, least.parse()?))
+    }
+
+    fn end(mut self) -> Outcome<()> {
+        drop(self.ask);
+        self.child.wait()?;
+        Ok(())
+    }
+}
+
+/// The scanners of this program, and the name of the one that is not of it.
+const SCANNERS: [(&str, Pass); 3] =
+    [("ours, C functions", through_c), ("ours, Rust crate", through_crate), ("original", by_original)];
+const GO: &str = "go/scanner";
+
+/// A source, its tokens, and for each scanner the nanoseconds of the quickest pass.
+struct Text {
+    name: String,
+    file: String,
+    source: String,
+    tokens: usize,
+    best: Vec<f64>,
+}
+
+impl Text {
+    fn read(word: &str) -> Outcome<Text> {
+        let (name, file) = word.split_once('=').ok_or("usage: scan [--go PROGRAM] NAME=FILE..")?;
+        let source = std::fs::read_to_string(file)?;
+        let tokens = through_c(&source);
+        if tokens == 0 {
+            return Err(format!("{name}: refused").into());
+        }
+        Ok(Text { name: name.to_string(), file: file.to_string(), source, tokens, best: Vec::new() })
+    }
+
+    /// Takes in what a scanner did.
+    fn add(&mut self, scanner: usize, (tokens, least): (usize, f64)) -> Outcome<()> {
+        if tokens != self.tokens {
+            let name = SCANNERS.get(scanner).map_or(GO, |(name, _)| name);
+            return Err(format!("{}: {} tokens, {name} has {tokens}", self.name, self.tokens).into());
+        }
+        if self.best.len() == scanner {
+            self.best.push(least);
+        }
+        self.best[scanner] = self.best[scanner].min(least);
+        Ok(())
+    }
+}
+
+fn measure(texts: &mut [Text], mut go: Option<Go>) -> Outcome<()> {
+    for _ in 0..ROUNDS {
+        for (index, text) in texts.iter_mut().enumerate() {
+            for (scanner, (_, pass)) in SCANNERS.iter().enumerate() {
+                text.add(scanner, best(*pass, &text.source))?;
+            }
+            if let Some(go) = &mut go {
+                text.add(SCANNERS.len(), go.best(index)?)?;
+            }
+        }
+    }
+    go.map_or(Ok(()), Go::end)
+}
+
+fn print_row(name: &str, bytes: usize, tokens: usize, best: &[f64]) {
+    print!("| {name} | {bytes} | {tokens} |");
+    for least in best {
+        print!(" {:.1} ns, {:.0} MB/s |", least / tokens as f64, bytes as f64 * 1e3 / least);
+    }
+    for least in &best[1..] {
+        print!(" {:.2} |", least / best[0]);
+    }
+    println!();
+}
+
+fn print_table(texts: &[Text]) {
+    let count = texts[0].best.len();
+    let names: Vec<&str> = SCANNERS.iter().map(|(name, _)| *name).chain([GO]).take(count).collect();
+    let ratios: Vec<String> = names[1..].iter().map(|name| format!("{name} : C functions")).collect();
+    println!(
+        "Nanoseconds a token and millions of bytes a second, opening and scanning to EOF, time of the scanning thread, the quickest of {} passes:\n",
+        ROUNDS * PASSES
+    );
+    println!("| source | bytes | tokens | {} | {} |", names.join(" | "), ratios.join(" | "));
+    println!("|{}", "---|".repeat(2 * count + 2));
+    for text in texts {
+        print_row(&text.name, text.source.len(), text.tokens, &text.best);
+    }
+    let sum = |scanner: usize| texts.iter().map(|text| text.best[scanner]).sum();
+    let best: Vec<f64> = (0..count).map(sum).collect();
+    let bytes = texts.iter().map(|text| text.source.len()).sum();
+    let tokens = texts.iter().map(|text| text.tokens).sum();
+    print_row("all", bytes, tokens, &best);
+}
+
+fn print_plain(files: &[String]) -> Outcome<()> {
+    for file in files {
+        if is_plain(&std::fs::read_to_string(file)?) {
+            println!("{file}");
+        }
+    }
+    Ok(())
+}
+
+fn main() -> Outcome<()> {
+    let mut words: Vec<String> = std::env::args().skip(1).collect();
+    if words.first().is_some_and(|word| word == "--plain") {
+        return print_plain(&words[1..]);
+    }
+    let mut program = None;
+    if words.len() > 1 && words[0] == "--go" {
+        program = Some(words[1].clone());
+        words.drain(..2);
+    }
+    let mut texts = words.iter().map(|word| Text::read(word)).collect::<Outcome<Vec<Text>>>()?;
+    if texts.is_empty() {
+        return Err("usage: scan [--go PROGRAM] NAME=FILE..".into());
+    }
+    let go = program.map(|program| Go::start(&program, &texts)).transpose()?;
+    measure(&mut texts, go)?;
+    print_table(&texts);
+    Ok(())
+}
