@@ -1,0 +1,251 @@
+/*
+ * The recipe scanner for programs in C: Go text to tokens.
+ *
+ * Open a source once with scanner_open, then call scanner_scan for one token
+ * after the other, up to SCANNER_KIND_EOF. Between calls the scanner keeps
+ * nothing: state, line table, error list and text area are the caller's.
+ *
+ * Each function answers 0, or the number of a refusal; a refused call changes
+ * nothing that it was lent, but for the place that refusal 1 carries. After 7, 8
+ * or 9 call again with a larger copy of the table, the list or the area.
+ *
+ * Lengths count elements. No pointer may be NULL, not even where its length is
+ * 0, and no two buffers of a call may overlap.
+ */
+#ifndef SCANNER_H
+#define SCANNER_H
+
+#include <stddef.h>
+#include <stdint.h>
+
+#ifdef __cplusplus
+extern "C" {
+#else
+_Static_assert(sizeof(size_t) == 8, "the scanner counts in 64 bits");
+#endif
+
+/* The longest source in bytes, and the greatest base + size. */
+#define SCANNER_MAX_SOURCE 1048576
+#define SCANNER_MAX_POSITION 4294967295u
+
+/* How many numbers a state, a token, an error and a position are. */
+#define SCANNER_STATE_LEN 7
+#define SCANNER_TOKEN_LEN 10
+#define SCANNER_ERROR_LEN 4
+#define SCANNER_POSITION_LEN 3
+
+/* The numbers of a state. */
+enum scanner_state_index {
+    SCANNER_STATE_BASE,     /* the position of offset 0 */
+    SCANNER_STATE_SIZE,     /* positions are base to base + size */
+    SCANNER_STATE_PLACE,    /* the byte at which the next scan starts */
+    SCANNER_STATE_OFFSET,   /* the characters before it */
+    SCANNER_STATE_MARK,     /* 1: a semicolon may be inserted next */
+    SCANNER_STATE_LINES,    /* line starts in the table */
+    SCANNER_STATE_ERRORS    /* errors in the list */
+};
+
+/* The numbers of a token. A part is in the area if its flag is 1, else in the source. */
+enum scanner_token_index {
+    SCANNER_TOKEN_KIND,
+    SCANNER_TOKEN_INSERTED, /* 1: a semicolon that does not stand in the source */
+    SCANNER_TOKEN_POSITION, /* base + offset of its first character */
+    SCANNER_TOKEN_CODE,     /* the code point of a CHAR */
+    SCANNER_TOKEN_TEXT_IN_AREA,
+    SCANNER_TOKEN_TEXT_START,
+    SCANNER_TOKEN_TEXT_END,
+    SCANNER_TOKEN_VALUE_IN_AREA,
+    SCANNER_TOKEN_VALUE_START,
+    SCANNER_TOKEN_VALUE_END
+};
+
+/* The numbers of an error; the first three are those of a position, too. */
+enum scanner_place_index {
+    SCANNER_OFFSET,         /* in characters, from 0 */
+    SCANNER_LINE,           /* from 1 */
+    SCANNER_COLUMN,         /* in characters, from 1 */
+    SCANNER_NUMBER          /* one of enum scanner_error_number */
+};
+
+/* The refusals. 1 to 5 come from the input, 6 to 9 from the state and the buffers. */
+enum scanner_refusal {
+    SCANNER_OK,
+    SCANNER_NOT_UTF8,       /* opening: not UTF-8 */
+    SCANNER_TOO_LONG,       /* opening: more than SCANNER_MAX_SOURCE bytes */
+    SCANNER_SIZE,           /* size below the characters, or base + size too large */
+    SCANNER_POSITION,       /* a position outside base to base + size */
+    SCANNER_NO_LINE,        /* line 0, or above the line count */
+    SCANNER_DOES_NOT_FIT,   /* the state is none of this source and these buffers */
+    SCANNER_TABLE_FULL,     /* more line starts than the table holds */
+    SCANNER_LIST_FULL,      /* an error and a full list */
+    SCANNER_AREA_FULL       /* more bytes to write than the area holds */
+};
+
+/* The errors of a source. */
+enum scanner_error_number {
+    SCANNER_ERROR_BINARY = 1,   /* bad binary number */
+    SCANNER_ERROR_OCTAL,        /* bad octal number */
+    SCANNER_ERROR_HEXADECIMAL,  /* bad hexadecimal number */
+    SCANNER_ERROR_UNDERSCORE,   /* _ misplaced in a number */
+    SCANNER_ERROR_EXPONENT,     /* exponent without digits */
+    SCANNER_ERROR_RAW_STRING,   /* raw string not closed */
+    SCANNER_ERROR_COMMENT,      /* comment not closed */
+    SCANNER_ERROR_QUOTE,        /* string or character not closed */
+    SCANNER_ERROR_ESCAPE,       /* unknown escape */
+    SCANNER_ERROR_ESCAPE_CUT,   /* escape cut by the end */
+    SCANNER_ERROR_ESCAPE_CHAR,  /* bad character in an escape */
+    SCANNER_ERROR_CODE_POINT,   /* no Unicode code point */
+    SCANNER_ERROR_CHAR          /* character literal not of one character */
+};
+
+/* The kinds of tokens. */
+enum scanner_kind {
+    SCANNER_KIND_NONE = 0,
+    SCANNER_KIND_ILLEGAL,
+    SCANNER_KIND_EOF,
+    SCANNER_KIND_COMMENT,
+    SCANNER_KIND_IDENT,
+    SCANNER_KIND_INT,
+    SCANNER_KIND_FLOAT,
+    SCANNER_KIND_IMAG,
+    SCANNER_KIND_CHAR,
+    SCANNER_KIND_STRING,
+    SCANNER_KIND_ADD,                   /* + */
+    SCANNER_KIND_SUB,                   /* - */
+    SCANNER_KIND_MUL,                   /* * */
+    SCANNER_KIND_QUO,                   /* / */
+    SCANNER_KIND_REM,                   /* % */
+    SCANNER_KIND_AND,                   /* & */
+    SCANNER_KIND_OR,                    /* | */
+    SCANNER_KIND_XOR,                   /* ^ */
+    SCANNER_KIND_SHL,                   /* << */
+    SCANNER_KIND_SHR,                   /* >> */
+    SCANNER_KIND_AND_NOT,               /* &^ */
+    SCANNER_KIND_ADD_ASSIGN,            /* += */
+    SCANNER_KIND_SUB_ASSIGN,            /* -= */
+    SCANNER_KIND_MUL_ASSIGN,            /* *= */
+    SCANNER_KIND_QUO_ASSIGN,            /* /= */
+    SCANNER_KIND_REM_ASSIGN,            /* %= */
+    SCANNER_KIND_AND_ASSIGN,            /* &= */
+    SCANNER_KIND_OR_ASSIGN,             /* |= */
+    SCANNER_KIND_XOR_ASSIGN,            /* ^= */
+    SCANNER_KIND_SHL_ASSIGN,            /* <<= */
+    SCANNER_KIND_SHR_ASSIGN,            /* >>= */
+    SCANNER_KIND_AND_NOT_ASSIGN,        /* &^= */
+    SCANNER_KIND_LAND,                  /* && */
+    SCANNER_KIND_LOR,                   /* || */
+    SCANNER_KIND_ARROW,                 /* <- */
+    SCANNER_KIND_INC,                   /* ++ */
+    SCANNER_KIND_DEC,                   /* -- */
+    SCANNER_KIND_EQL,                   /* == */
+    SCANNER_KIND_LSS,                   /* < */
+    SCANNER_KIND_GTR,                   /* > */
+    SCANNER_KIND_ASSIGN,                /* = */
+    SCANNER_KIND_NOT,                   /* ! */
+    SCANNER_KIND_NEQ,                   /* != */
+    SCANNER_KIND_LEQ,                   /* <= */
+    SCANNER_KIND_GEQ,                   /* >= */
+    SCANNER_KIND_DEFINE,                /* := */
+    SCANNER_KIND_ELLIPSIS,              /* ... */
+    SCANNER_KIND_LPAREN,                /* ( */
+    SCANNER_KIND_LBRACK,                /* [ */
+    SCANNER_KIND_LBRACE,                /* { */
+    SCANNER_KIND_COMMA,                 /* , */
+    SCANNER_KIND_PERIOD,                /* . */
+    SCANNER_KIND_RPAREN,                /* ) */
+    SCANNER_KIND_RBRACK,                /* ] */
+    SCANNER_KIND_RBRACE,                /* } */
+    SCANNER_KIND_SEMICOLON,             /* ; */
+    SCANNER_KIND_COLON,                 /* : */
+    SCANNER_KIND_BREAK,
+    SCANNER_KIND_CASE,
+    SCANNER_KIND_CHAN,
+    SCANNER_KIND_CONST,
+    SCANNER_KIND_CONTINUE,
+    SCANNER_KIND_DEFAULT,
+    SCANNER_KIND_DEFER,
+    SCANNER_KIND_ELSE,
+    SCANNER_KIND_FALLTHROUGH,
+    SCANNER_KIND_FOR,
+    SCANNER_KIND_FUNC,
+    SCANNER_KIND_GO,
+    SCANNER_KIND_GOTO,
+    SCANNER_KIND_IF,
+    SCANNER_KIND_IMPORT,
+    SCANNER_KIND_INTERFACE,
+    SCANNER_KIND_MAP,
+    SCANNER_KIND_PACKAGE,
+    SCANNER_KIND_RANGE,
+    SCANNER_KIND_RETURN,
+    SCANNER_KIND_SELECT,
+    SCANNER_KIND_STRUCT,
+    SCANNER_KIND_SWITCH,
+    SCANNER_KIND_TYPE,
+    SCANNER_KIND_VAR,
+    SCANNER_KINDS                       /* how many there are */
+};
+
+/*
+ * Opens a source of Go text: UTF-8, at most SCANNER_MAX_SOURCE bytes. The size
+ * is at least its number of characters. The first state goes to `state`, the
+ * first line start to `table`, the number of characters to `answer` (1 number);
+ * with refusal 1, the place of a byte that belongs to no character goes there.
+ */
+uint8_t scanner_open(const uint8_t *src, size_t src_len, size_t base, size_t size,
+                     size_t *table, size_t table_len, size_t *state, size_t state_len,
+                     size_t *answer, size_t answer_len);
+
+/*
+ * Scans one token: its numbers go to `token`, the next state to `state`. Give
+ * the source that was opened, and state, table and list as the call before left
+ * them. A text or value that differs from the source is written to the start of
+ * `area` and stands there up to the next scan that is lent this area.
+ */
+uint8_t scanner_scan(const uint8_t *src, size_t src_len, size_t *state, size_t state_len,
+                     size_t *table, size_t table_len, size_t *list, size_t list_len,
+                     uint8_t *area, size_t area_len, size_t *token, size_t token_len);
+
+/* Offset, line and column of a position. Lines are known as far as the source was read. */
+uint8_t scanner_position(const size_t *state, size_t state_len, const size_t *table, size_t table_len,
+                         size_t position, size_t *answer, size_t answer_len);
+
+/* The position at which a line, counted from 1, starts. */
+uint8_t scanner_line_start(const size_t *state, size_t state_len, const size_t *table, size_t table_len,
+                           size_t line, size_t *answer, size_t answer_len);
+
+/* Offset, line, column and number of an error, by its index from 0; four zeros past the last. */
+uint8_t scanner_error(const size_t *state, size_t state_len, const size_t *list, size_t list_len,
+                      size_t index, size_t *answer, size_t answer_len);
+
+/* Bytes of the source or of the area. They end with no 0. */
+struct scanner_bytes {
+    const uint8_t *start;
+    size_t len;
+};
+
+/* The part that three numbers of a token are: in the area or not, start, end. */
+static inline struct scanner_bytes scanner_part(const size_t *part, const uint8_t *src, const uint8_t *area)
+{
+    struct scanner_bytes bytes;
+    bytes.start = (part[0] != 0 ? area : src) + part[1];
+    bytes.len = part[2] - part[1];
+    return bytes;
+}
+
+/* The text of a token, from the source and the area as its scan left them. Operators, keywords and EOF have none. */
+static inline struct scanner_bytes scanner_text(const size_t *token, const uint8_t *src, const uint8_t *area)
+{
+    return scanner_part(token + SCANNER_TOKEN_TEXT_IN_AREA, src, area);
+}
+
+/* The value of a STRING, likewise; other tokens have none. */
+static inline struct scanner_bytes scanner_value(const size_t *token, const uint8_t *src, const uint8_t *area)
+{
+    return scanner_part(token + SCANNER_TOKEN_VALUE_IN_AREA, src, area);
+}
+
+#ifdef __cplusplus
+}
+#endif
+
+#endif

@@ -1,0 +1,334 @@
+/* The test of scanner.h: listings, refusals, buffers that grow. */
+#include "scanner.h"
+
+#include <stdarg.h>
+#include <stdio.h>
+#include <stdlib.h>
+#include <string.h>
+
+static int passed, failed;
+
+static void check(int holds, const char *what)
+{
+    if (holds) {
+        passed++;
+        return;
+    }
+    failed++;
+    printf("failed: %s\n", what);
+}
+
+/* A scanner with its buffers. */
+struct run {
+    const uint8_t *src;
+    size_t src_len;
+    size_t state[SCANNER_STATE_LEN];
+    size_t token[SCANNER_TOKEN_LEN];
+    size_t table[64], list[64];
+    uint8_t area[256];
+    size_t table_len, list_len, area_len;
+    size_t answer[SCANNER_ERROR_LEN];
+};
+
+static void prepare(struct run *r, const char *src, size_t len)
+{
+    memset(r, 0, sizeof *r);
+    memset(r->area, 0xaa, sizeof r->area);
+    r->src = (const uint8_t *)src;
+    r->src_len = len;
+    r->table_len = 64;
+    r->list_len = 64;
+    r->area_len = 256;
+}
+
+static uint8_t open_at(struct run *r, size_t base, size_t size)
+{
+    return scanner_open(r->src, r->src_len, base, size, r->table, r->table_len,
+                        r->state, SCANNER_STATE_LEN, r->answer, SCANNER_ERROR_LEN);
+}
+
+/* Opens a text without a 0 in it at base 0, in a size of its bytes. */
+static uint8_t start(struct run *r, const char *src)
+{
+    prepare(r, src, strlen(src));
+    return open_at(r, 0, r->src_len);
+}
+
+static uint8_t scan(struct run *r)
+{
+    return scanner_scan(r->src, r->src_len, r->state, SCANNER_STATE_LEN, r->table, r->table_len,
+                        r->list, r->list_len, r->area, r->area_len, r->token, SCANNER_TOKEN_LEN);
+}
+
+static uint8_t locate(struct run *r, size_t position)
+{
+    return scanner_position(r->state, SCANNER_STATE_LEN, r->table, r->table_len, position,
+                            r->answer, SCANNER_POSITION_LEN);
+}
+
+static uint8_t line_start(struct run *r, size_t line)
+{
+    return scanner_line_start(r->state, SCANNER_STATE_LEN, r->table, r->table_len, line, r->answer, 1);
+}
+
+static uint8_t error_at(struct run *r, size_t index)
+{
+    return scanner_error(r->state, SCANNER_STATE_LEN, r->list, r->list_len, index,
+                         r->answer, SCANNER_ERROR_LEN);
+}
+
+static int same(struct scanner_bytes bytes, const char *text)
+{
+    return bytes.len == strlen(text) && memcmp(bytes.start, text, bytes.len) == 0;
+}
+
+/* A listing is gathered here, its lines parted by bars. */
+static char listing[4096];
+static size_t listed;
+
+static void put(const char *format, ...)
+{
+    va_list args;
+    va_start(args, format);
+    listed += (size_t)vsnprintf(listing + listed, sizeof listing - listed, format, args);
+    va_end(args);
+}
+
+static void put_bytes(struct scanner_bytes bytes)
+{
+    size_t i;
+    if (bytes.len == 0)
+        put(" -");
+    else
+        put(" ");
+    for (i = 0; i < bytes.len; i++)
+        put("%02x", bytes.start[i]);
+}
+
+static void put_token(struct run *r)
+{
+    size_t kind = r->token[SCANNER_TOKEN_KIND];
+    check(locate(r, r->token[SCANNER_TOKEN_POSITION]) == SCANNER_OK, "a token's position has a line");
+    put("%zu %zu %zu %zu", r->answer[SCANNER_OFFSET], r->answer[SCANNER_LINE],
+        r->answer[SCANNER_COLUMN], kind);
+    put_bytes(scanner_text(r->token, r->src, r->area));
+    if (kind == SCANNER_KIND_STRING)
+        put_bytes(scanner_value(r->token, r->src, r->area));
+    if (kind == SCANNER_KIND_CHAR)
+        put(" %zx", r->token[SCANNER_TOKEN_CODE]);
+    put("|");
+}
+
+/* The listing of a text that is open: tokens up to EOF, errors, line count. */
+static const char *list(struct run *r)
+{
+    size_t i;
+    uint8_t refusal;
+    listed = 0;
+    do {
+        refusal = scan(r);
+        if (refusal != SCANNER_OK) {
+            put("R %u", refusal);
+            return listing;
+        }
+        put_token(r);
+    } while (r->token[SCANNER_TOKEN_KIND] != SCANNER_KIND_EOF);
+    for (i = 0; i < r->state[SCANNER_STATE_ERRORS]; i++) {
+        check(error_at(r, i) == SCANNER_OK, "an error is answered");
+        put("E %zu %zu %zu %zu|", r->answer[0], r->answer[1], r->answer[2], r->answer[3]);
+    }
+    put("L %zu", r->state[SCANNER_STATE_LINES]);
+    return listing;
+}
+
+struct row {
+    const char *text;
+    size_t more; /* size above the number of bytes */
+    const char *listing;
+};
+
+static const struct row rows[] = {
+    {"x:=017\n", 0, "0 1 1 4 78|1 1 2 45 -|3 1 4 5 306f3137|6 1 7 55 -|7 1 8 2 -|L 1"},
+    {"", 0, "0 1 1 2 -|L 1"},
+    {"x", 0, "0 1 1 4 78|1 1 2 55 -|1 1 2 2 -|L 1"},
+    {"08", 0, "0 1 1 1 306f|1 1 2 5 38|2 1 3 55 -|2 1 3 2 -|E 1 1 2 2|L 1"},
+    {"0X1F", 0, "0 1 1 5 30783146|4 1 5 55 -|4 1 5 2 -|L 1"},
+    {"''", 0, "0 1 1 1 2727|2 1 3 55 -|2 1 3 2 -|E 2 1 3 13|L 1"},
+    {"'ab'", 0, "0 1 1 1 27616227|4 1 5 55 -|4 1 5 2 -|E 4 1 5 13|L 1"},
+    {"\"\\400\"", 0, "0 1 1 1 225c343030|5 1 6 1 22|6 1 7 55 -|6 1 7 2 -|E 6 1 7 8|L 1"},
+    {"x /* c */ r\n", 0, "0 1 1 4 78|2 1 3 3 2f2a2063202a2f|10 1 11 4 72|11 1 12 55 -|12 1 13 2 -|L 1"},
+    {"1__0", 0, "0 1 1 1 315f|2 1 3 4 5f30|4 1 5 55 -|4 1 5 2 -|E 2 1 3 4|L 1"},
+    {"`\n", 0, "0 1 1 9 600a 0a|2 1 3 55 -|2 1 3 2 -|E 2 1 3 6|L 1"},
+    {"`\n", 1, "0 1 1 9 600a 0a|2 2 1 55 -|2 2 1 2 -|E 2 2 1 6|L 2"},
+    {"'\\n' \"a\\x80\"", 0, "0 1 1 8 275c6e27 a|5 1 6 9 22615c78383022 6180|12 1 13 55 -|12 1 13 2 -|L 1"},
+};
+
+static void test_rows(void)
+{
+    struct run r;
+    size_t i;
+    for (i = 0; i < sizeof rows / sizeof *rows; i++) {
+        prepare(&r, rows[i].text, strlen(rows[i].text));
+        check(open_at(&r, 0, r.src_len + rows[i].more) == SCANNER_OK, rows[i].text);
+        check(r.answer[0] == r.src_len, "opening counts the characters");
+        check(strcmp(list(&r), rows[i].listing) == 0, rows[i].listing);
+    }
+}
+
+static void test_opening(void)
+{
+    static char longest[SCANNER_MAX_SOURCE + 1];
+    struct run r;
+    check(start(&r, "a\xff") == SCANNER_NOT_UTF8 && r.answer[0] == 1, "1, with the place");
+    memset(longest, ' ', sizeof longest);
+    prepare(&r, longest, SCANNER_MAX_SOURCE + 1);
+    check(open_at(&r, 0, SCANNER_MAX_SOURCE + 1) == SCANNER_TOO_LONG, "2 above the limit");
+    r.src_len = SCANNER_MAX_SOURCE;
+    check(open_at(&r, 0, SCANNER_MAX_SOURCE) == SCANNER_OK, "the limit itself");
+    prepare(&r, "x", 1);
+    check(open_at(&r, 0, 0) == SCANNER_SIZE, "3, size below the characters");
+    check(open_at(&r, SCANNER_MAX_POSITION, 1) == SCANNER_SIZE, "3, base + size too large");
+    check(open_at(&r, SCANNER_MAX_POSITION - 1, 1) == SCANNER_OK, "the last base");
+    r.table_len = 0;
+    check(open_at(&r, 0, 1) == SCANNER_TABLE_FULL, "7, no table");
+    prepare(&r, "\xc3\xa9", 2);
+    check(open_at(&r, 0, 1) == SCANNER_OK && r.answer[0] == 1, "one character of two bytes");
+}
+
+static void test_queries(void)
+{
+    struct run r;
+    prepare(&r, "x", 1);
+    check(open_at(&r, 5, 1) == SCANNER_OK, "base 5");
+    check(scan(&r) == SCANNER_OK && r.token[SCANNER_TOKEN_POSITION] == 5, "a position is base + offset");
+    check(locate(&r, 4) == SCANNER_POSITION, "4 below the base");
+    check(locate(&r, 5) == SCANNER_OK && r.answer[0] == 0 && r.answer[1] == 1 && r.answer[2] == 1, "the base");
+    check(locate(&r, 6) == SCANNER_OK && r.answer[2] == 2, "base + size");
+    check(locate(&r, 7) == SCANNER_POSITION, "4 above base + size");
+    check(line_start(&r, 0) == SCANNER_NO_LINE, "5, line 0");
+    check(line_start(&r, 1) == SCANNER_OK && r.answer[0] == 5, "the start of line 1");
+    check(line_start(&r, 2) == SCANNER_NO_LINE, "5, above the count");
+    r.answer[0] = r.answer[3] = 9;
+    check(error_at(&r, 0) == SCANNER_OK && r.answer[0] == 0 && r.answer[3] == 0, "no error: zeros");
+}
+
+static void test_states(void)
+{
+    struct run r;
+    check(start(&r, "x y") == SCANNER_OK, "a state to forge");
+    r.state[SCANNER_STATE_PLACE] = 4;
+    check(scan(&r) == SCANNER_DOES_NOT_FIT, "6, place beyond the source");
+    r.state[SCANNER_STATE_PLACE] = 0;
+    r.state[SCANNER_STATE_OFFSET] = 1;
+    check(scan(&r) == SCANNER_DOES_NOT_FIT, "6, offset above place");
+    r.state[SCANNER_STATE_OFFSET] = 0;
+    r.state[SCANNER_STATE_LINES] = 0;
+    check(scan(&r) == SCANNER_DOES_NOT_FIT, "6, line count 0");
+    check(locate(&r, 0) == SCANNER_DOES_NOT_FIT, "6 from a query");
+    r.state[SCANNER_STATE_LINES] = 1;
+    r.table[0] = 1;
+    check(scan(&r) == SCANNER_DOES_NOT_FIT, "6, first start not 0");
+    r.table[0] = 0;
+    r.state[SCANNER_STATE_ERRORS] = 17;
+    check(scan(&r) == SCANNER_DOES_NOT_FIT, "6, error count above the list");
+    r.state[SCANNER_STATE_ERRORS] = 0;
+    check(scan(&r) == SCANNER_OK, "mended");
+}
+
+static void test_short_slices(void)
+{
+    struct run r;
+    check(start(&r, "x") == SCANNER_OK, "a text for short slices");
+    check(scanner_scan(r.src, r.src_len, r.state, SCANNER_STATE_LEN - 1, r.table, 64, r.list, 64, r.area, 256,
+                       r.token, SCANNER_TOKEN_LEN) == SCANNER_DOES_NOT_FIT, "6, a short state");
+    check(scanner_scan(r.src, r.src_len, r.state, SCANNER_STATE_LEN, r.table, 64, r.list, 64, r.area, 256,
+                       r.token, SCANNER_TOKEN_LEN - 1) == SCANNER_DOES_NOT_FIT, "6, a short token");
+    check(scanner_open(r.src, r.src_len, 0, 1, r.table, 64, r.state, SCANNER_STATE_LEN,
+                       r.answer, 0) == SCANNER_DOES_NOT_FIT, "6, no answer");
+    check(scanner_error(r.state, SCANNER_STATE_LEN, r.list, 64, 0,
+                        r.answer, SCANNER_ERROR_LEN - 1) == SCANNER_DOES_NOT_FIT, "6, a short answer");
+}
+
+/* A scan that is to be refused, and to change nothing. */
+static void refuse(struct run *r, uint8_t number, const char *what)
+{
+    struct run before = *r;
+    check(scan(r) == number, what);
+    check(memcmp(&before, r, sizeof before) == 0, "a refused scan changes nothing");
+}
+
+static void test_full(void)
+{
+    struct run r;
+    start(&r, "\n\nx");
+    r.table_len = 2;
+    refuse(&r, SCANNER_TABLE_FULL, "7, a full table");
+    r.table_len = 3;
+    check(scan(&r) == SCANNER_OK && r.state[SCANNER_STATE_LINES] == 3, "a larger table");
+    start(&r, "08");
+    r.list_len = 3;
+    refuse(&r, SCANNER_LIST_FULL, "8, a full list");
+    r.list_len = 4;
+    check(scan(&r) == SCANNER_OK && r.state[SCANNER_STATE_ERRORS] == 1, "a larger list");
+    check(r.list[SCANNER_OFFSET] == 1 && r.list[SCANNER_NUMBER] == SCANNER_ERROR_OCTAL, "the record in the list");
+}
+
+static void test_area(void)
+{
+    struct run r;
+    start(&r, "017");
+    for (r.area_len = 1; r.area_len < 4; r.area_len *= 2)
+        refuse(&r, SCANNER_AREA_FULL, "9, a small area");
+    check(scan(&r) == SCANNER_OK, "a larger area");
+    check(r.token[SCANNER_TOKEN_TEXT_IN_AREA] == 1, "a changed text stands in the area");
+    check(same(scanner_text(r.token, r.src, r.area), "0o17"), "the text in the area");
+    check(r.area[4] == 0xaa, "later bytes keep their content");
+    start(&r, "`a\r\n`");
+    check(scan(&r) == SCANNER_OK && r.token[SCANNER_TOKEN_KIND] == SCANNER_KIND_STRING, "a raw string with a CR");
+    check(same(scanner_text(r.token, r.src, r.area), "`a\n`"), "its text");
+    check(same(scanner_value(r.token, r.src, r.area), "a\n"), "its value, behind the text");
+    start(&r, "\"ab\"");
+    check(scan(&r) == SCANNER_OK && scanner_value(r.token, r.src, r.area).start == r.src + 1,
+          "a plain value is shown from the source");
+}
+
+/* The area on the heap, doubled as often as the scan asks for it. */
+static void test_growth(void)
+{
+    size_t asked = 0, len = 1, i;
+    uint8_t refusal = SCANNER_AREA_FULL, *area = malloc(len);
+    char text[2 + 1000 + 3];
+    struct run r;
+    for (i = 2; i < 1002; i++)
+        text[i] = i % 2 == 0 ? 'c' : '\r';
+    memcpy(text, "/*", 2);
+    memcpy(text + 1002, "*/", 3);
+    start(&r, text);
+    while (area != NULL
+           && (refusal = scanner_scan(r.src, r.src_len, r.state, SCANNER_STATE_LEN, r.table, 64, r.list, 64,
+                                      area, len, r.token, SCANNER_TOKEN_LEN)) == SCANNER_AREA_FULL) {
+        asked++;
+        len *= 2;
+        area = realloc(area, len);
+    }
+    check(area != NULL && refusal == SCANNER_OK, "the scan after growth");
+    check(asked == 9 && len == 512, "doubled nine times");
+    check(scanner_text(r.token, r.src, area).len == 504, "a comment without its CRs");
+    free(area);
+}
+
+int main(void)
+{
+    check(SCANNER_KINDS == 82 && SCANNER_KIND_VAR == 81 && SCANNER_KIND_SEMICOLON == 55, "82 kinds");
+    check(SCANNER_AREA_FULL == 9 && SCANNER_ERROR_CHAR == 13, "9 refusals, 13 errors");
+    test_rows();
+    test_opening();
+    test_queries();
+    test_states();
+    test_short_slices();
+    test_full();
+    test_area();
+    test_growth();
+    printf("%d passed, %d failed\n", passed, failed);
+    return failed != 0;
+}

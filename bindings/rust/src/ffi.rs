@@ -1,0 +1,152 @@
+//! The five functions of the library, over slices. The only unsafe code of this crate is here.
+//!
+//! A slice passes as its pointer and its length in elements. Each function answers the number of its refusal,
+//! or 0, reads and writes its slices within their lengths alone, keeps no pointer and ends: so it is proved.
+
+#![allow(unsafe_code)]
+
+/// A state in its numbers: base, size, place, offset, mark, lines, errors.
+pub type State = [usize; 7];
+/// A token in its numbers: kind, inserted, position, code, then text and value: in the area or not, start, end.
+pub type Token = [usize; 10];
+
+extern "C" {
+    fn scanner_open(
+        src: *const u8,
+        src_len: usize,
+        base: usize,
+        size: usize,
+        table: *mut usize,
+        table_len: usize,
+        state: *mut usize,
+        state_len: usize,
+        answer: *mut usize,
+        answer_len: usize,
+    ) -> u8;
+
+    fn scanner_scan(
+        src: *const u8,
+        src_len: usize,
+        state: *mut usize,
+        state_len: usize,
+        table: *mut usize,
+        table_len: usize,
+        list: *mut usize,
+        list_len: usize,
+        area: *mut u8,
+        area_len: usize,
+        token: *mut usize,
+        token_len: usize,
+    ) -> u8;
+
+    fn scanner_position(
+        state: *const usize,
+        state_len: usize,
+        table: *const usize,
+        table_len: usize,
+        position: usize,
+        answer: *mut usize,
+        answer_len: usize,
+    ) -> u8;
+
+    fn scanner_line_start(
+        state: *const usize,
+        state_len: usize,
+        table: *const usize,
+        table_len: usize,
+        line: usize,
+        answer: *mut usize,
+        answer_len: usize,
+    ) -> u8;
+
+    fn scanner_error(
+        state: *const usize,
+        state_len: usize,
+        list: *const usize,
+        list_len: usize,
+        index: usize,
+        answer: *mut usize,
+        answer_len: usize,
+    ) -> u8;
+}
+
+/// Opens a source; the answer is its number of characters, or with 1 the place of the bad byte.
+pub fn open(src: &[u8], base: usize, size: usize, table: &mut [usize], state: &mut State, answer: &mut usize) -> u8 {
+    // SAFETY: each pointer and length are those of a live slice (the answer: of one number). The lent ones that
+    // are written are exclusive borrows, so no two overlap.
+    unsafe {
+        scanner_open(
+            src.as_ptr(),
+            src.len(),
+            base,
+            size,
+            table.as_mut_ptr(),
+            table.len(),
+            state.as_mut_ptr(),
+            state.len(),
+            answer,
+            1,
+        )
+    }
+}
+
+/// Scans one token.
+#[inline]
+pub fn scan(
+    src: &[u8],
+    state: &mut State,
+    table: &mut [usize],
+    list: &mut [usize],
+    area: &mut [u8],
+    token: &mut Token,
+) -> u8 {
+    // SAFETY: each pointer and length are those of a live slice; those that are written are exclusive borrows,
+    // so no two overlap.
+    unsafe {
+        scanner_scan(
+            src.as_ptr(),
+            src.len(),
+            state.as_mut_ptr(),
+            state.len(),
+            table.as_mut_ptr(),
+            table.len(),
+            list.as_mut_ptr(),
+            list.len(),
+            area.as_mut_ptr(),
+            area.len(),
+            token.as_mut_ptr(),
+            token.len(),
+        )
+    }
+}
+
+/// The offset, line and column of a position.
+pub fn position(state: &State, table: &[usize], position: usize, answer: &mut [usize; 3]) -> u8 {
+    // SAFETY: each pointer and length are those of a live slice; the answer, which is written, is an exclusive borrow.
+    unsafe {
+        scanner_position(
+            state.as_ptr(),
+            state.len(),
+            table.as_ptr(),
+            table.len(),
+            position,
+            answer.as_mut_ptr(),
+            answer.len(),
+        )
+    }
+}
+
+/// The position at which a line starts.
+pub fn line_start(state: &State, table: &[usize], line: usize, answer: &mut usize) -> u8 {
+    // SAFETY: each pointer and length are those of a live slice (the answer: of one number); the answer, which is
+    // written, is an exclusive borrow.
+    unsafe { scanner_line_start(state.as_ptr(), state.len(), table.as_ptr(), table.len(), line, answer, 1) }
+}
+
+/// The offset, line, column and number of an error; zeros where there is none.
+pub fn error(state: &State, list: &[usize], index: usize, answer: &mut [usize; 4]) -> u8 {
+    // SAFETY: each pointer and length are those of a live slice; the answer, which is written, is an exclusive borrow.
+    unsafe {
+        scanner_error(state.as_ptr(), state.len(), list.as_ptr(), list.len(), index, answer.as_mut_ptr(), answer.len())
+    }
+}
