@@ -5,6 +5,8 @@
 //
 // Status 1: a difference that no entry explains.
 mod differences;
+mod direct;
+#[rustfmt::skip]
 mod inputs;
 mod listing;
 mod original;
@@ -94,11 +96,12 @@ impl Comparison {
         Err(format!("expected: refusal {number}, place {place}\n  ours: {:?}, {}", self.ours.end, shown(&self.ours)))
     }
 
-    // Ours at another base beside ours at base 0: 1, the number of bytes or the largest. One above is refused.
+    // Ours at another base (1, the number of bytes or the largest), called directly and in small buffers, beside ours at
+    // base 0. A base above the largest is refused.
     fn compare_bases(&mut self, source: &[u8], size: usize) -> Result<(), String> {
         let room = MAX_POSITION - size;
         let base = [1, source.len(), room][self.total.inputs % 3].min(room);
-        ours::list(source, base, size, &mut self.raised);
+        direct::list(source, base, size, &mut self.raised).map_err(|what| format!("ours at base {base}: {what}"))?;
         if self.raised != self.ours {
             return Err(format!("ours at base {base}: {}\n  at base 0: {}", shown(&self.raised), shown(&self.ours)));
         }

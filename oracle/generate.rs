@@ -3,6 +3,7 @@
 // generate MODE COUNT SEED
 //
 // inputs.rs lists the modes.
+#[rustfmt::skip]
 mod inputs;
 
 use std::io::{self, BufWriter, Write};
