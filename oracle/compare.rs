@@ -211,7 +211,7 @@ fn shares(count: usize) -> [(&'static str, usize); 6] {
     let edges = (count / 20).min(1957);
     let limits = (count / 1000).min(141);
     let exhaustive = (count / 4).min(757_933);
-    let long = count / 200;
+    let long = count / 1000;
     let rest = count - edges - limits - exhaustive - long;
     let (grown, damaged) = (rest - rest / 2, rest / 2);
     [

@@ -61,15 +61,17 @@ fn put_case(out: &mut Vec<u8>, bytes: &[u8], size: usize, o: &Options, listing: 
         put_hex(out, bytes);
         out.push(b'\n');
     }
-    match std::str::from_utf8(bytes) {
-        Ok(source) => {
-            original::list(source, o.base, size, listing);
-            listing.print(out);
-            if o.starts && listing.end == End::Whole {
-                put_starts(out, source, size, o.base)?;
-            }
+    let source = std::str::from_utf8(bytes);
+    match source {
+        Ok(source) => original::list(source, o.base, size, listing),
+        Err(_) => {
+            listing.clear();
+            listing.end = End::NotUtf8;
         }
-        Err(_) => out.extend(b"U\n"),
+    }
+    listing.print(out);
+    if let (Ok(source), true, End::Whole) = (source, o.starts, listing.end) {
+        put_starts(out, source, size, o.base)?;
     }
     out.extend(b".\n");
     Ok(())
