@@ -25,6 +25,8 @@ const MAX_POSITION: usize = u32::MAX as usize;
 struct Fault {
     source: Vec<u8>,
     size: usize,
+    /// Its number, by which the other base is chosen.
+    number: usize,
     what: String,
 }
 
@@ -77,7 +79,10 @@ impl Comparison {
             }
             return self.expect_refusal(3, 0, Entry::Size);
         }
-        let expected = differences::expected(text, size, &self.theirs, &self.ours)?;
+        let expected = differences::expected(text, size, &self.theirs, &self.ours).map_err(|what| {
+            let [theirs, ours] = [&self.theirs, &self.ours].map(shown);
+            format!("{what}\n  original: {theirs}\n  ours: {ours}")
+        })?;
         let (listing, reasons) = match &expected {
             None => (&self.theirs, Reasons::default()),
             Some(expected) => (&expected.listing, expected.reasons),
@@ -98,9 +103,9 @@ impl Comparison {
 
     // Ours at another base (1, the number of bytes or the largest), called directly and in small buffers, beside ours at
     // base 0. A base above the largest is refused.
-    fn compare_bases(&mut self, source: &[u8], size: usize) -> Result<(), String> {
+    fn compare_bases(&mut self, source: &[u8], size: usize, number: usize) -> Result<(), String> {
         let room = MAX_POSITION - size;
-        let base = [1, source.len(), room][self.total.inputs % 3].min(room);
+        let base = [1, source.len(), room][number % 3].min(room);
         direct::list(source, base, size, &mut self.raised).map_err(|what| format!("ours at base {base}: {what}"))?;
         if self.raised != self.ours {
             return Err(format!("ours at base {base}: {}\n  at base 0: {}", shown(&self.raised), shown(&self.ours)));
@@ -111,16 +116,17 @@ impl Comparison {
         Ok(())
     }
 
-    fn compare_all(&mut self, source: &[u8], size: usize) -> Result<Reasons, String> {
+    fn compare_all(&mut self, source: &[u8], size: usize, number: usize) -> Result<Reasons, String> {
         let reasons = self.compare(source, size)?;
-        self.compare_bases(source, size)?;
+        self.compare_bases(source, size, number)?;
         Ok(reasons)
     }
 
     // One input, counted. Each 64th short one is asked questions, too.
     fn count(&mut self, source: &[u8], size: usize) {
-        let mut result = self.compare_all(source, size);
-        if self.total.inputs % 64 == 0 && self.ours.end == End::Whole && source.len() <= 1024 {
+        let number = self.total.inputs;
+        let mut result = self.compare_all(source, size, number);
+        if number % 64 == 0 && self.ours.end == End::Whole && source.len() <= 1024 {
             let asked = self.total.questions.ask(source, size, &self.ours);
             result = result.and_then(|reasons| asked.map(|()| reasons));
         }
@@ -138,7 +144,7 @@ impl Comparison {
             }
             Err(what) => {
                 total.unexplained += 1;
-                self.keep_fault(Fault { source: source.to_vec(), size, what });
+                self.keep_fault(Fault { source: source.to_vec(), size, number, what });
             }
         }
     }
@@ -160,8 +166,8 @@ impl Comparison {
             while at + chunk <= fault.source.len() {
                 let source = [&fault.source[..at], &fault.source[at + chunk..]].concat();
                 let size = fault.size.saturating_sub(chunk);
-                match self.compare_all(&source, size) {
-                    Err(what) => fault = Fault { source, size, what },
+                match self.compare_all(&source, size, fault.number) {
+                    Err(what) => fault = Fault { source, size, what, ..fault },
                     Ok(_) => at += 1,
                 }
             }

@@ -191,7 +191,7 @@ impl Asked {
             self.put(self.theirs.rows[i], &mut out);
         }
         out.errors.extend(&self.theirs.errors);
-        // an error stands behind the start of its token and not behind that of the next
+        // errors arrive in the order of their offsets
         out.errors.sort_by_key(|error| error[0]);
         out.starts.clone_from(&self.theirs.starts);
         out.end = self.theirs.end;
