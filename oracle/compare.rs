@@ -1,222 +1,309 @@
-// Compares our listings with the original's, and tells by which entry of docs/DIFFERENCES.md each difference is explained.
+// Runs our scanner beside the original, and tells by which entry of docs/DIFFERENCES.md each difference is explained.
 //
-// compare FRAMES ORIGINAL OURS
+// compare COUNT [SEED]   the recorded inputs, and COUNT that are made
+// compare record         prints oracle/ours.txt
 //
-// FRAMES are the inputs, ORIGINAL and OURS the listings of each. Status 1: a difference that no entry explains.
-use std::collections::BTreeMap;
-use std::fs;
+// Status 1: a difference that no entry explains.
+mod differences;
+mod direct;
+#[rustfmt::skip]
+mod inputs;
+mod listing;
+mod original;
+mod ours;
+mod questions;
+mod recorded;
 
-type Lines<'a> = Vec<Vec<&'a str>>;
+use differences::{Entry, Reasons, NAMES};
+use listing::{End, Listing};
+use std::time::Instant;
 
-// One listing: the words of each line up to the dot.
-fn listing<'a>(lines: &mut impl Iterator<Item = &'a str>) -> Lines<'a> {
-    lines.take_while(|l| *l != ".").map(|l| l.split(' ').collect()).collect()
+const MAX_SOURCE: usize = 1_048_576;
+const MAX_POSITION: usize = u32::MAX as usize;
+
+/// An input for which ours is not what it must be.
+struct Fault {
+    source: Vec<u8>,
+    size: usize,
+    /// Its number, by which the other base is chosen.
+    number: usize,
+    what: String,
 }
 
-fn is_token(line: &[&str]) -> bool {
-    line.len() >= 5 && line[0] != "E"
+#[derive(Default)]
+struct Counts {
+    inputs: usize,
+    same: usize,
+    explained: usize,
+    unexplained: usize,
+    tokens: usize,
+    errors: usize,
+    /// Inputs whose size is below, at and above the number of characters.
+    sizes: [usize; 3],
+    entries: [usize; NAMES.len()],
+    questions: questions::Counts,
 }
 
-fn bytes(hex: &str) -> Vec<u8> {
-    (0..hex.len() / 2).map(|i| u8::from_str_radix(&hex[2 * i..2 * i + 2], 16).unwrap()).collect()
+/// The listings of one input, kept for the next one.
+#[derive(Default)]
+struct Comparison {
+    ours: Listing,
+    theirs: Listing,
+    raised: Listing,
+    total: Counts,
+    faults: Vec<Fault>,
 }
 
-fn tokens<'a>(listing: &Lines<'a>) -> Lines<'a> {
-    listing.iter().filter(|l| is_token(l)).cloned().collect()
+// A listing in one line.
+fn shown(listing: &Listing) -> String {
+    let mut out = Vec::new();
+    listing.print(&mut out);
+    String::from_utf8_lossy(&out).trim_end().replace('\n', " | ")
 }
 
-fn errors<'a>(listing: &Lines<'a>) -> Lines<'a> {
-    listing.iter().filter(|l| l[0] == "E").cloned().collect()
-}
-
-// How many characters a literal has between its quotes, an escape counted as one.
-fn literal_characters(text: &str) -> usize {
-    let body: Vec<char> = String::from_utf8(bytes(text)).unwrap().chars().collect();
-    let (mut i, mut n) = (1, 0);
-    while i + 1 < body.len() {
-        i += match (body[i], body.get(i + 1)) {
-            ('\\', Some('x')) => 4,
-            ('\\', Some('u')) => 6,
-            ('\\', Some('U')) => 10,
-            ('\\', Some('0'..='7')) => 4,
-            ('\\', _) => 2,
-            _ => 1,
+impl Comparison {
+    // Ours at base 0 beside the original.
+    fn compare(&mut self, source: &[u8], size: usize) -> Result<Reasons, String> {
+        ours::list(source, 0, size, &mut self.ours);
+        if source.len() > MAX_SOURCE {
+            return self.expect_refusal(2, 0, Entry::Length);
+        }
+        let text = match std::str::from_utf8(source) {
+            Err(e) => return self.expect_refusal(1, e.valid_up_to(), Entry::NotUtf8),
+            Ok(text) => text,
         };
-        n += 1;
-    }
-    n
-}
-
-// Does an escape in a string give a byte above 127?
-fn gives_high_byte(text: &str) -> bool {
-    let b = bytes(text);
-    let mut i = 1;
-    while i + 1 < b.len() {
-        if b[i] == b'\\' {
-            let digits = |from: usize, n: usize, base| u32::from_str_radix(std::str::from_utf8(&b[from..from + n]).unwrap_or("x"), base).unwrap_or(0);
-            let high = match b[i + 1] {
-                b'x' => digits(i + 2, 2, 16) > 127,
-                b'0'..=b'7' => digits(i + 1, 3, 8) > 127,
-                _ => false,
-            };
-            if high {
-                return true;
+        original::list(text, 0, size, &mut self.theirs);
+        if size < text.chars().count() {
+            if self.theirs.end != End::Panic {
+                return Err(format!("original: {}", shown(&self.theirs)));
             }
-            i += 1;
+            return self.expect_refusal(3, 0, Entry::Size);
         }
-        i += 1;
-    }
-    false
-}
-
-// Is a run of spaces, tabs, CRs and r up to an LF or the end, with a CR or an r in it, behind a general comment?
-fn odd_comment(source: &str, token: &[&str]) -> bool {
-    if token[3] != "3" || !token[4].starts_with("2f2a") {
-        return false;
-    }
-    let at: usize = token[0].parse().unwrap();
-    let rest: Vec<char> = source.chars().skip(at).collect();
-    let Some(end) = (4..=rest.len()).find(|e| rest[e - 2..*e] == ['*', '/']) else {
-        return false;
-    };
-    let tail: Vec<char> = rest[end..].iter().copied().take_while(|c| *c != '\n').collect();
-    let run = tail.iter().all(|c| matches!(c, ' ' | '\t' | '\r' | 'r'));
-    run && tail.iter().any(|c| matches!(c, '\r' | 'r'))
-}
-
-// An inserted semicolon.
-fn is_inserted(token: &[&str]) -> bool {
-    token[3] == "55" && token[4] == "-"
-}
-
-// What one input comes to.
-struct Case<'a> {
-    source: &'a str,
-    reasons: Vec<&'static str>,
-}
-
-impl Case<'_> {
-    // Is a token of ours what the original's becomes by an entry?
-    fn explained(&mut self, theirs: &[&str], ours: &[&str], added: &mut Vec<String>) -> bool {
-        if theirs[3] == "8" && ours[3] == "1" && theirs[..3] == ours[..3] && theirs[4] == ours[4] && literal_characters(theirs[4]) != 1 {
-            let end = theirs[0].parse::<usize>().unwrap() + String::from_utf8(bytes(theirs[4])).unwrap().chars().count();
-            added.push(end.to_string());
-            self.reasons.push("a character literal of more than one character");
-            return true;
+        let expected = differences::expected(text, size, &self.theirs, &self.ours).map_err(|what| {
+            let [theirs, ours] = [&self.theirs, &self.ours].map(shown);
+            format!("{what}\n  original: {theirs}\n  ours: {ours}")
+        })?;
+        let (listing, reasons) = match &expected {
+            None => (&self.theirs, Reasons::default()),
+            Some(expected) => (&expected.listing, expected.reasons),
+        };
+        if *listing == self.ours {
+            return Ok(reasons);
         }
-        if theirs[3] == "9" && ours[3] == "9" && theirs[..5] == ours[..5] && gives_high_byte(theirs[4]) {
-            self.reasons.push("a byte given by \\x or in octal in a string");
-            return true;
-        }
-        false
+        let [theirs, expected, ours] = [&self.theirs, listing, &self.ours].map(shown);
+        Err(format!("original: {theirs}\n  expected: {expected}\n  ours: {ours}"))
     }
 
-    // The tokens as far as the two can be compared; answers whether all of them were.
-    fn compare_tokens(&mut self, theirs: &Lines, ours: &Lines, panicked: bool, added: &mut Vec<String>) -> Result<bool, String> {
-        for (i, t) in theirs.iter().enumerate() {
-            let Some(o) = ours.get(i) else {
-                return Err(format!("no token for {t:?}"));
-            };
-            let letter = t[3] == "4" && bytes(t[4]).iter().any(|b| *b > 127);
-            if letter {
-                self.reasons.push("letters above 127");
-                return Ok(false);
-            }
-            if t != o && !self.explained(t, o, added) {
-                return Err(format!("{t:?} and {o:?}"));
-            }
+    fn expect_refusal(&self, number: u8, place: usize, entry: Entry) -> Result<Reasons, String> {
+        if self.ours.end == (End::Refused { number, place }) {
+            return Ok(Reasons::of(entry));
         }
-        if panicked {
-            self.reasons.push("an empty character literal");
-            let next = ours.get(theirs.len());
-            return match next {
-                Some(o) if o[3] == "1" && o[4] == "2727" => Ok(false),
-                _ => Err(format!("a panic and {next:?}")),
-            };
-        }
-        if ours.len() != theirs.len() {
-            return Err("more tokens".into());
-        }
-        Ok(true)
+        Err(format!("expected: refusal {number}, place {place}\n  ours: {:?}, {}", self.ours.end, shown(&self.ours)))
     }
 
-    // Their errors with those that were added, in order, are ours.
-    fn compare_errors(&self, theirs: &Lines, ours: &Lines, added: &[String]) -> Result<(), String> {
-        let mut left: Lines = theirs.clone();
-        for e in ours {
-            if left.first() == Some(e) {
-                left.remove(0);
-            } else if !(e[4] == "13" && added.contains(&e[1].to_string())) {
-                return Err(format!("error {e:?}"));
-            }
+    // Ours at another base (1, the number of bytes or the largest), called directly and in small buffers, beside ours at
+    // base 0. A base above the largest is refused.
+    fn compare_bases(&mut self, source: &[u8], size: usize, number: usize) -> Result<(), String> {
+        let room = MAX_POSITION - size;
+        let base = [1, source.len(), room][number % 3].min(room);
+        direct::list(source, base, size, &mut self.raised).map_err(|what| format!("ours at base {base}: {what}"))?;
+        if self.raised != self.ours {
+            return Err(format!("ours at base {base}: {}\n  at base 0: {}", shown(&self.raised), shown(&self.ours)));
         }
-        let extra = ours.iter().filter(|e| e[4] == "13").count();
-        if left.is_empty() && extra == added.len() { Ok(()) } else { Err("errors that are missing".into()) }
-    }
-
-    fn compare(&mut self, theirs: &Lines, ours: &Lines) -> Result<(), String> {
-        if theirs == ours {
-            return Ok(());
-        }
-        let panicked = theirs.last().is_some_and(|l| l[0] == "P");
-        let (mut a, mut b) = (tokens(theirs), tokens(ours));
-        let odd = a.iter().chain(&b).any(|t| odd_comment(self.source, t));
-        if odd {
-            self.reasons.push("r or CR after a comment");
-            a.retain(|t| !is_inserted(t));
-            b.retain(|t| !is_inserted(t));
-        }
-        let mut added = Vec::new();
-        if self.compare_tokens(&a, &b, panicked, &mut added)? {
-            self.compare_errors(&errors(theirs), &errors(ours), &added)?;
-            if theirs.last() != ours.last() {
-                return Err("line counts".into());
-            }
-            if self.reasons.is_empty() {
-                return Err("the listings".into());
-            }
+        if self.ours.end == End::Whole && !ours::is_refused(source, room + 1, size, 3) {
+            return Err(format!("base {} is not refused", room + 1));
         }
         Ok(())
     }
-}
 
-fn main() {
-    let words: Vec<String> = std::env::args().collect();
-    let frames = fs::read(&words[1]).unwrap();
-    let (original, ours) = (fs::read_to_string(&words[2]).unwrap(), fs::read_to_string(&words[3]).unwrap());
-    let (mut original, mut ours) = (original.lines().filter(|l| !l.starts_with("I ")), ours.lines());
-    let (mut at, mut inputs, mut same, mut bad) = (0, 0, 0, 0);
-    let mut counts: BTreeMap<&str, usize> = BTreeMap::new();
-    while at < frames.len() {
-        let len = u32::from_le_bytes(frames[at..at + 4].try_into().unwrap()) as usize;
-        let input = &frames[at + 8..at + 8 + len];
-        at += 8 + len;
-        inputs += 1;
-        let (a, b) = (listing(&mut original), listing(&mut ours));
-        let refused = b.first().is_some_and(|l| l[0] == "R");
-        if refused {
-            let (wants, reason) = if b[0][1] == "1" { ("U", "bytes that are not UTF-8") } else { ("P", "a size below the number of characters") };
-            *counts.entry(reason).or_default() += 1;
-            // the original does not look at the size before an offset passes it
-            if wants == "U" && a[0][0] != wants {
-                bad += 1;
-                println!("{input:02x?}: refused, {:?}", a[0]);
-            }
-            continue;
+    fn compare_all(&mut self, source: &[u8], size: usize, number: usize) -> Result<Reasons, String> {
+        let reasons = self.compare(source, size)?;
+        self.compare_bases(source, size, number)?;
+        Ok(reasons)
+    }
+
+    // One input, counted. Each 64th short one is asked questions, too.
+    fn count(&mut self, source: &[u8], size: usize) {
+        let number = self.total.inputs;
+        let mut result = self.compare_all(source, size, number);
+        if number % 64 == 0 && self.ours.end == End::Whole && source.len() <= 1024 {
+            let asked = self.total.questions.ask(source, size, &self.ours);
+            result = result.and_then(|reasons| asked.map(|()| reasons));
         }
-        let mut case = Case { source: std::str::from_utf8(input).unwrap(), reasons: Vec::new() };
-        match case.compare(&a, &b) {
-            Ok(()) if case.reasons.is_empty() => same += 1,
-            Ok(()) => case.reasons.iter().for_each(|r| *counts.entry(r).or_default() += 1),
+        let total = &mut self.total;
+        total.inputs += 1;
+        total.tokens += self.ours.rows.len();
+        total.errors += self.ours.errors.len();
+        let n = source.iter().filter(|b| **b & 0xc0 != 0x80).count();
+        total.sizes[1 + usize::from(size > n) - usize::from(size < n)] += 1;
+        match result {
+            Ok(reasons) if reasons.is_empty() => total.same += 1,
+            Ok(reasons) => {
+                total.explained += 1;
+                reasons.places().for_each(|place| total.entries[place] += 1);
+            }
             Err(what) => {
-                bad += 1;
-                if bad < 20 {
-                    println!("{}: {what}", input.iter().map(|b| format!("{b:02x}")).collect::<String>());
-                }
+                total.unexplained += 1;
+                self.keep_fault(Fault { source: source.to_vec(), size, number, what });
             }
         }
     }
-    println!("{inputs} inputs, {same} with the same listing, {bad} not explained");
-    counts.iter().for_each(|(reason, n)| println!("  {n} {reason}"));
-    std::process::exit(if bad == 0 { 0 } else { 1 });
+
+    // Keeps the ten smallest inputs.
+    fn keep_fault(&mut self, fault: Fault) {
+        let at = self.faults.partition_point(|kept| kept.source.len() <= fault.source.len());
+        if at < 10 {
+            self.faults.insert(at, fault);
+            self.faults.truncate(10);
+        }
+    }
+
+    // Leaves out bytes of an input as long as it stays unexplained.
+    fn shrink(&mut self, mut fault: Fault) -> Fault {
+        let mut chunk = fault.source.len();
+        while chunk > 0 {
+            let mut at = 0;
+            while at + chunk <= fault.source.len() {
+                let source = [&fault.source[..at], &fault.source[at + chunk..]].concat();
+                let size = fault.size.saturating_sub(chunk);
+                match self.compare_all(&source, size, fault.number) {
+                    Err(what) => fault = Fault { source, size, what, ..fault },
+                    Ok(_) => at += 1,
+                }
+            }
+            chunk /= 2;
+        }
+        fault
+    }
+
+    fn print_faults(&mut self) {
+        let mut seen = Vec::new();
+        for fault in std::mem::take(&mut self.faults) {
+            let fault = self.shrink(fault);
+            let input = recorded::input_line(fault.size, &fault.source);
+            if !seen.contains(&input) {
+                println!("not explained: {input}\n  {}", fault.what);
+                seen.push(input);
+            }
+        }
+    }
+
+    fn print_mode(&mut self, mode: &str, before: [usize; 4], start: Instant) {
+        let now = self.numbers();
+        let [inputs, same, explained, unexplained] = [0, 1, 2, 3].map(|i| now[i] - before[i]);
+        let seconds = start.elapsed().as_secs_f64();
+        println!("{mode:10} {inputs:>10} {same:>10} {explained:>10} {unexplained:>13} {seconds:>8.1}");
+    }
+
+    fn numbers(&self) -> [usize; 4] {
+        [self.total.inputs, self.total.same, self.total.explained, self.total.unexplained]
+    }
+
+    fn print_totals(&self) {
+        let total = &self.total;
+        println!("{} tokens, {} errors of ours", total.tokens, total.errors);
+        let [below, at, above] = total.sizes;
+        println!("sizes: {below} below the number of characters, {at} equal to it, {above} above it");
+        println!("inputs by the entry of docs/DIFFERENCES.md that explains them, some by more than one:");
+        for (name, n) in NAMES.iter().zip(total.entries).filter(|(_, n)| *n > 0) {
+            println!("{n:>10} {name}");
+        }
+        total.questions.print();
+    }
+}
+
+// How many inputs of each mode make so many in all.
+fn shares(count: usize) -> [(&'static str, usize); 6] {
+    let edges = (count / 20).min(1957);
+    let limits = (count / 1000).min(141);
+    let exhaustive = (count / 4).min(757_933);
+    let long = count / 1000;
+    let rest = count - edges - limits - exhaustive - long;
+    let (grown, damaged) = (rest - rest / 2, rest / 2);
+    [
+        ("edges", edges),
+        ("exhaustive", exhaustive),
+        ("grown", grown),
+        ("damaged", damaged),
+        ("long", long),
+        ("limits", limits),
+    ]
+}
+
+fn run(count: usize, seed: u64) -> i32 {
+    let start = Instant::now();
+    let mut comparison = Comparison::default();
+    println!(
+        "{:10} {:>10} {:>10} {:>10} {:>13} {:>8}",
+        "inputs", "number", "same", "explained", "not explained", "seconds"
+    );
+    for case in recorded::read("oracle/recorded.txt") {
+        let (size, bytes) = case.input();
+        comparison.count(&bytes, size);
+    }
+    comparison.print_mode("recorded", [0; 4], start);
+    for (mode, number) in shares(count) {
+        let (before, start) = (comparison.numbers(), Instant::now());
+        inputs::make(mode, number, seed, &mut |text, size| comparison.count(text, size));
+        comparison.print_mode(mode, before, start);
+    }
+    comparison.print_mode("all", [0; 4], start);
+    comparison.print_totals();
+    let unexplained = comparison.total.unexplained;
+    comparison.print_faults();
+    i32::from(unexplained > 0)
+}
+
+// A source as a reader sees it, in quotes.
+fn readable(source: &[u8]) -> String {
+    match std::str::from_utf8(source) {
+        Ok(text) => format!("{text:?}"),
+        Err(_) => format!("\"{}\"", source.escape_ascii()),
+    }
+}
+
+// The recorded cases for which ours differs, with our answers and the entries that explain them.
+fn record() -> i32 {
+    println!("# Our answers where they differ from the original's. oracle/README.md says how to read them.");
+    let mut comparison = Comparison::default();
+    for case in recorded::read("oracle/recorded.txt") {
+        let (size, bytes) = case.input();
+        let result = comparison.compare(&bytes, size);
+        let mut answer = Vec::new();
+        comparison.ours.print(&mut answer);
+        let answer = String::from_utf8_lossy(&answer);
+        match result {
+            Err(what) => {
+                eprintln!("not explained: {}\n  {what}", case.input);
+                return 1;
+            }
+            Ok(_) if answer == case.answer => {}
+            Ok(reasons) => {
+                let names: String = reasons.places().map(|place| format!("D {}\n", NAMES[place])).collect();
+                print!("# {}\n{}\n{names}{answer}.\n", readable(&bytes), case.input);
+            }
+        }
+    }
+    0
+}
+
+fn main() {
+    original::catch_panics();
+    let headings = recorded::headings();
+    if let Some(name) = NAMES.iter().find(|name| !headings.iter().any(|heading| heading == *name)) {
+        eprintln!("compare: docs/DIFFERENCES.md has no entry \"{name}\"");
+        std::process::exit(1);
+    }
+    let words: Vec<String> = std::env::args().skip(1).collect();
+    let numbers: Vec<usize> = words.iter().flat_map(|word| word.parse()).collect();
+    let status = match (words.first().map(String::as_str), &numbers[..]) {
+        (Some("record"), []) => record(),
+        (_, [count]) => run(*count, 1),
+        (_, [count, seed]) => run(*count, *seed as u64),
+        _ => {
+            eprintln!("usage: compare COUNT [SEED] | compare record");
+            2
+        }
+    };
+    std::process::exit(status);
 }
