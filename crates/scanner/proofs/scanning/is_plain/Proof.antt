@@ -1,5 +1,4 @@
 -- `scanning::is_plain` meets its contract: each test of the code is one of the definition's.
-use mathlib.Core.Path.{refl}
 use borrow.Author.Tests.{eq-eqb, ne-eqb}
 use Rattle.scanner.proofs.scanning.is_plain.Statement.{statement}
 use Rattle.scanner.proofs.scanning.is_plain.Tie as tie
