@@ -1,12 +1,14 @@
 -- What a token that passes the checks leaves behind: a state that fits its table, and the buffers of the definition.
 use Prim.Native.Nat.{ℕ, _+_, _*_, _-_, _≤_, _<_, _^_}
 use mathlib.Core.Path.{_≡_, _∙_}
-use mathlib.Core.Bool.{true, cond}
+use mathlib.Core.Bool.{true, false, cond, not, _&&_}
 use mathlib.Core.List.{List}
 use native.Mathlib.Omega.{arith}
 use lib.Dec.{eqb}
-use lib.ListN.{take}
+use lib.ListN.{length, take}
 use lib.Seq.{sets, length-sets}
+use borrow.Author.Tests.{not-true}
+use Rattle.basics.proofs.Choice.{and-split}
 use Rattle.basics.proofs.Sets.{getD-sets-before}
 use Rattle.position.specs.Place.{fitting}
 use Rattle.position.proofs.Place.{Fit, fit, fit-true}
@@ -17,9 +19,17 @@ use Rattle.lexer.specs.declared.lexed.Lexed.{Lexed}
 use Rattle.lexer.specs.Placed.{said}
 use Rattle.state.specs.declared.state.State.{State}
 use Rattle.scanner.specs.declared.answer.Token.{Token}
+use Rattle.scanner.specs.declared.answer.Scanned.{Scanned}
 use Rattle.state.specs.Fits.{fileOf}
 use Rattle.scanner.specs.Scan.{written, toArea, After}
-use Rattle.scanner.specs.Steps.{stateBy, tokenBy, startsFrom, Ready, commitOf}
+use Rattle.scanner.specs.Steps.{textLen, valueLen, stateBy, tokenBy, startsFrom, isPlain, Ready, commitOf}
+
+-- what a plain token has
+pub plain : (x : Lexed) → isPlain x ≡ true → (eqb (x .error) 0 ≡ true) × (x .«text_differs» ≡ false) × (x .«value_differs» ≡ false)
+plain x p =
+    let a = and-split (eqb (x .error) 0 && not (x .«text_differs»)) (not (x .«value_differs»)) p in
+    let b = and-split (eqb (x .error) 0) (not (x .«text_differs»)) (a .0) in
+    (b .0, not-true _ (b .1), not-true _ (a .1))
 
 module _ (src : List ℕ) (s : State) (start : ℕ) (x : Lexed) (read starts : ℕ) (table list area : List ℕ) where
   abbrev after : State
@@ -50,6 +60,13 @@ module _ (src : List ℕ) (s : State) (start : ℕ) (x : Lexed) (read starts : �
     pub position-fits : s .base + s .offset + (start - s .place) < 2 ^ 64
     position-fits = omega (arith, file .top, k .sized, k .blanks)
 
+    -- a plain token may be committed
+    pub plain-ready : isPlain x ≡ true → length table < 2 ^ 64
+        → (isPlain x ≡ true) × (starts ≡ length (startsFrom src s read)) × (s .offset + read < 2 ^ 64) × (s .lines + starts < 2 ^ 64) × (s .place ≤ start)
+        × (s .base + s .offset + (start - s .place) < 2 ^ 64) × (start + 1 + textLen x + valueLen x < 2 ^ 64)
+    plain-ready e short =
+        (e, k .counted, omega (arith, file .top, k .sized), omega (arith, k .tableRoom, short), k .behind, position-fits, k .bytes)
+
     pub base-fits : s .base + s .offset < 2 ^ 64
     base-fits = omega (arith, position-fits)
 
@@ -60,3 +77,14 @@ module _ (src : List ℕ) (s : State) (start : ℕ) (x : Lexed) (read starts : �
       (commitOf src s start x read starts table list area)
   unfolding commitOf
   commit-is e f g h d = rw (g, h, d, f, e)
+
+  -- a plain token leaves the area as it is
+  nothing : isPlain x ≡ true → written (toArea (said src start x)) area ≡ area
+  unfolding said
+  nothing p = rw (plain x p .1, plain x p .2)
+
+  pub commit-plain-is : {t : List ℕ} {a : Scanned} → isPlain x ≡ true → t ≡ recorded
+      → a ≡ record { refusal = 0; state = after; token = tokenBy x start (s .base + s .offset + (start - s .place)) }
+      → _≡_ {A = After} (record { table = t; list = list; area = area; answer = a }) (commitOf src s start x read starts table list area)
+  unfolding commitOf
+  commit-plain-is p f g = rw (f, g, nothing p, plain x p .0)

@@ -1,7 +1,7 @@
 -- The steps of the code of a scan, by the lexer's answer.
 use Prim.Native.Nat.{ℕ, _+_, _*_, _-_, _≤_, _<_, _^_}
 use mathlib.Core.Path.{_≡_}
-use mathlib.Core.Bool.{true, cond}
+use mathlib.Core.Bool.{Bool, true, cond, not, _&&_}
 use mathlib.Core.List.{List}
 use lib.Dec.{eqb, ltb}
 use lib.ListN.{length, take, drop}
@@ -65,6 +65,10 @@ tokenBy x start position =
           (cond (x .«value_differs») (cond (x .«text_differs») (textLen x) 0) (cond (eqb (x .kind) STRING) (start + 1) start))
           (valueLen x);
     }
+
+-- has it no error, and are text and value the source's own bytes?
+abbrev pub isPlain : Lexed → Bool
+isPlain x = eqb (x .error) 0 && not (x .«text_differs») && not (x .«value_differs»)
 
 -- the line starts that the next characters record, so many of them
 abbrev pub startsFrom : List ℕ → State → ℕ → List ℕ

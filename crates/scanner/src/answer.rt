@@ -3,7 +3,7 @@ use lexer::Lexed;
 use state::Part;
 use state::State;
 ghost use mathlib.Core.Path.{_≡_};
-ghost use mathlib.Core.Bool.{cond};
+ghost use mathlib.Core.Bool.{false, cond};
 ghost use Prim.Native.Nat.{_+_, _<_, _^_};
 ghost use lib.Dec.{eqb};
 ghost use Rattle.token.specs.Kinds.{STRING};
@@ -109,5 +109,33 @@ pub(crate) fn token_of(x: Lexed, start: usize, position: usize) -> Token
         code: x.code,
         text,
         value,
+    }
+}
+
+// The same where text and value are the source's own bytes.
+pub(crate) fn plain_token(x: Lexed, start: usize, position: usize) -> Token
+    requires { ⌜ (x .«text_differs» ≡ false) × (x .«value_differs» ≡ false) × (start + 1 + textLen x + valueLen x < 2 ^ 64) ⌝ }
+    ensures { λ r. ⌜ r ≡ tokenBy x start position ⌝ }
+{
+    let value_from = if x.kind == token::STRING {
+        start + 1
+    } else {
+        start
+    };
+    Token {
+        kind: x.kind,
+        inserted: x.inserted,
+        position,
+        code: x.code,
+        text: Part {
+            area: false,
+            start,
+            end: start + x.text_bytes,
+        },
+        value: Part {
+            area: false,
+            start: value_from,
+            end: value_from + x.value_bytes,
+        },
     }
 }

@@ -1,5 +1,6 @@
 // One scan: a pass that only reads, the checks, and then what is written.
 use crate::answer::Scanned;
+use crate::answer::plain_token;
 use crate::answer::refused;
 use crate::answer::token_of;
 use crate::write::write_area;
@@ -7,7 +8,7 @@ use crate::write::write_error;
 use lexer::Lexed;
 use state::State;
 ghost use mathlib.Core.Path.{_≡_};
-ghost use Prim.Native.Nat.{_+_, _*_, _≤_, _<_, _^_};
+ghost use Prim.Native.Nat.{_+_, _*_, _-_, _≤_, _<_, _^_};
 ghost use mathlib.Core.Bool.{true, cond};
 ghost use lib.Dec.{leb, eqb};
 ghost use lib.ListN.{length, take, drop};
@@ -21,7 +22,7 @@ ghost use Rattle.errors.specs.Errors.{roomOf};
 ghost use Rattle.reading.specs.Reading.{errorAt};
 ghost use Rattle.state.specs.Fits.{fileOf};
 ghost use Rattle.scanner.specs.Scan.{scanOf};
-ghost use Rattle.scanner.specs.Steps.{toWrite, refusalBy, stateBy, startsFrom, Ready, commitOf};
+ghost use Rattle.scanner.specs.Steps.{textLen, valueLen, toWrite, refusalBy, stateBy, tokenBy, startsFrom, isPlain, Ready, commitOf};
 
 // How many line starts the next characters record, so many of them with so many line feeds; at the size a line feed starts no line.
 fn starts_read(src: &[u8], state: State, read: usize, lfs: usize) -> usize
@@ -143,6 +144,56 @@ fn record_error(after: State, table: &[usize], list: &mut [usize], count: usize,
     write_error(after, table, list, count, number);
 }
 
+// Is it a token without an error, whose text and value are the source's own bytes?
+fn is_plain(x: Lexed) -> bool
+    ensures { λ r. ⌜ r ≡ isPlain x ⌝ }
+{
+    if x.error != 0 {
+        return false;
+    }
+    if x.text_differs {
+        return false;
+    }
+    !x.value_differs
+}
+
+// What commit leaves and answers for a plain token: nothing goes to the list or the area.
+fn commit_plain(
+    src: &[u8],
+    state: State,
+    start: usize,
+    x: Lexed,
+    read: usize,
+    starts: usize,
+    table: &mut [usize],
+) -> Scanned
+    requires { ⌜ (isPlain x ≡ true) × (starts ≡ length (startsFrom (now src) state read)) × (state .offset + read < 2 ^ 64)
+        × (state .lines + starts < 2 ^ 64) × (state .place ≤ start) × (state .base + state .offset + (start - state .place) < 2 ^ 64)
+        × (start + 1 + textLen x + valueLen x < 2 ^ 64) ⌝ }
+    ensures { λ r. ⌜ (now (table .exit) ≡ sets (now (table .entry)) (state .lines) (startsFrom (now (src .entry)) state read))
+        × (r ≡ record {
+          refusal = 0;
+          state = stateBy x (state .offset + read) starts state;
+          token = tokenBy x start (state .base + state .offset + (start - state .place));
+        }) ⌝ }
+{
+    record_starts(src, state, read, starts, table);
+    let position = state.base + state.offset + (start - state.place);
+    Scanned {
+        refusal: 0,
+        state: State {
+            base: state.base,
+            size: state.size,
+            place: x.end,
+            offset: state.offset + read,
+            mark: x.mark,
+            lines: state.lines + starts,
+            errors: state.errors,
+        },
+        token: plain_token(x, start, position),
+    }
+}
+
 // Writes what a token that passed the checks leaves in the buffers, and answers it.
 fn commit(
     src: &[u8],
@@ -159,6 +210,9 @@ fn commit(
     ensures { λ r. ⌜ record { table = now (table .exit); list = now (list .exit); area = now (area .exit); answer = r }
         ≡ commitOf (now (src .entry)) state start x read starts (now (table .entry)) (now (list .entry)) (now (area .entry)) ⌝ }
 {
+    if is_plain(x) {
+        return commit_plain(src, state, start, x, read, starts, table);
+    }
     let after = state_after(x, state.offset + read, starts, state);
     record_starts(src, state, read, starts, table);
     record_error(after, table, list, state.errors, x.error);
