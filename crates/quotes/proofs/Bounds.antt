@@ -9,7 +9,7 @@ use Rattle.basics.proofs.Choice.{cond-ind}
 use Rattle.utf8.specs.declared.Char.{Char}
 use Rattle.utf8.specs.Chars.{isStray}
 use Rattle.quotes.specs.declared.Quoted.{Quoted}
-use Rattle.quotes.specs.Steps.{added}
+use Rattle.quotes.specs.Steps.{added, addedPlain}
 
 -- before the first character there is no code
 abbrev pub Fresh : Quoted → Type 0
@@ -32,6 +32,15 @@ pub added-chars : (p m L : ℕ) (q : Quoted) (n code bytes strays : ℕ) (escape
 unfolding added
 added-chars p m L q n code bytes strays escaped w a b = omega arith
 
+-- a run of n characters, each of one byte
+pub plain-within : (p end : ℕ) (q : Quoted) (code : ℕ) → Within p q → p < end → Within end (addedPlain q (end - p) code)
+unfolding addedPlain
+plain-within p end q code w h = (omega arith, omega arith, omega arith, omega arith, rw (ne-eqb (q .count + (end - p)) 0 (λ e. omega arith)))
+
+pub plain-chars : (p end L : ℕ) (q : Quoted) (code : ℕ) → Within p q → p < end → end ≤ L → addedPlain q (end - p) code .chars ≤ L
+unfolding addedPlain
+plain-chars p end L q code w h l = omega arith
+
 -- so that no sum is too large where the text is shorter than half the numbers
 pub room-stop : (p L : ℕ) (q : Quoted) (n : ℕ) → Within p q → p + n ≤ L → L < 2 ^ 63 → q .chars + n < 2 ^ 64
 room-stop p L q n w a b = omega arith
@@ -40,9 +49,16 @@ pub room-add : (p L m : ℕ) (q : Quoted) (n bytes strays : ℕ) → Within p q 
     → (q .chars + n < 2 ^ 64) × (q .count + 1 < 2 ^ 64) × (q .strays + strays < 2 ^ 64) × (q .bytes + bytes < 2 ^ 64)
 room-add p L m q n bytes strays w a b c d e f = (omega arith, omega arith, omega arith, omega arith)
 
+pub room-plain : (p end L : ℕ) (q : Quoted) → Within p q → p < end → end ≤ L → L < 2 ^ 63
+    → (q .chars + (end - p) < 2 ^ 64) × (q .count + (end - p) < 2 ^ 64) × (q .bytes + (end - p) < 2 ^ 64)
+room-plain p end L q w h l b = (omega arith, omega arith, omega arith)
+
 -- ---- sums at a place: stated by themselves, since `omega` is slow beside all that a loop knows
 pub less : (p m L : ℕ) → p + m ≤ L → 1 ≤ m → L - (p + m) < L - p
 less p m L a b = omega arith
+
+pub nearer : (p end L : ℕ) → p < end → end ≤ L → L - end < L - p
+nearer p end L a b = omega arith
 
 pub next : (p L : ℕ) → p < L → p + 1 ≤ L
 next p L h = omega arith

@@ -5,6 +5,7 @@ pub mod Bodies
 pub mod Reading
 pub mod Bounds
 pub mod Places
+pub mod PlainRuns
 pub mod Local
 pub mod Shown
 pub mod Shorter

@@ -1,7 +1,8 @@
 -- The body of a quoted literal as it is read: what one character adds to it, and how it ends.
-use Prim.Native.Nat.{ℕ, _+_}
+use Prim.Native.Nat.{ℕ, suc, _+_}
 use mathlib.Core.Bool.{Bool, false, cond, _||_}
-use lib.Dec.{eqb}
+use mathlib.Core.List.{List, [], _∷_}
+use lib.Dec.{eqb, ltb}
 use Rattle.quotes.specs.declared.Given.{Given}
 use Rattle.quotes.specs.declared.Given.the-variants.{Value, Bad}
 use Rattle.quotes.specs.declared.Quoted.{Quoted}
@@ -23,6 +24,30 @@ added q n code bytes strays escaped =
       escaped = escaped || q .escaped;
       strays = q .strays + strays;
       bytes = q .bytes + bytes;
+    }
+
+-- is a byte an ASCII character that is written as itself?
+unfoldable pub isPlain : ℕ → ℕ → Bool
+isPlain quote b = cond (eqb b quote) false (cond (eqb b 10) false (cond (eqb b 92) false (ltb b 0x80)))
+
+-- how many such bytes a text begins with
+unfoldable pub plainLen : ℕ → List ℕ → ℕ
+plainLen quote [] = 0
+plainLen quote (b ∷ s) = cond (isPlain quote b) (suc (plainLen quote s)) 0
+
+-- n of them more, by the code of the first
+unfoldable pub addedPlain : Quoted → ℕ → ℕ → Quoted
+addedPlain q n code =
+    record {
+      end = q .end;
+      chars = q .chars + n;
+      closed = q .closed;
+      error = q .error;
+      count = q .count + n;
+      code = cond (eqb (q .count) 0) code (q .code);
+      escaped = q .escaped;
+      strays = q .strays;
+      bytes = q .bytes + n;
     }
 
 -- the end of the body, after n characters more

@@ -5,12 +5,12 @@ use crate::escapes::escape_at;
 ghost use mathlib.Core.Path.{_≡_};
 ghost use mathlib.Core.Bool.{cond};
 ghost use Prim.Native.Nat.{_+_, _<_, _^_};
-ghost use lib.ListN.{length};
+ghost use lib.ListN.{length, drop};
 ghost use Rattle.utf8.specs.Chars.{isStray};
 ghost use Rattle.quotes.specs.Escape.{bytesOf};
 ghost use Rattle.quotes.specs.declared.Given.the-variants.{Value};
 ghost use Rattle.quotes.specs.Body.{quotedAt};
-ghost use Rattle.quotes.specs.Steps.{nothing, added, stopped, errorOf};
+ghost use Rattle.quotes.specs.Steps.{isPlain, plainLen, nothing, added, addedPlain, stopped, errorOf};
 
 // Before the first character.
 fn nothing_read(at: usize) -> Quoted
@@ -45,6 +45,25 @@ fn add(q: Quoted, n: usize, code: u32, bytes: usize, strays: usize, escaped: boo
         escaped: escaped || q.escaped,
         strays: q.strays + strays,
         bytes: q.bytes + bytes,
+    }
+}
+
+// n characters more that are written as themselves, each of one byte, by the code of the first.
+fn add_plain(q: Quoted, n: usize, code: u32) -> Quoted
+    requires { ⌜ (q .chars + n < 2 ^ 64) × (q .count + n < 2 ^ 64) × (q .bytes + n < 2 ^ 64) ⌝ }
+    ensures { λ r. ⌜ r ≡ addedPlain q n code ⌝ }
+{
+    let first = q.count == 0;
+    Quoted {
+        end: q.end,
+        chars: q.chars + n,
+        closed: q.closed,
+        error: q.error,
+        count: q.count + n,
+        code: if first { code } else { q.code },
+        escaped: q.escaped,
+        strays: q.strays,
+        bytes: q.bytes + n,
     }
 }
 
@@ -90,6 +109,36 @@ fn stray_count(c: utf8::Char) -> usize
     if utf8::is_stray(c) { 1 } else { 0 }
 }
 
+// Is a byte an ASCII character that is written as itself?
+fn is_plain(b: u8, quote: u8) -> bool
+    ensures { λ r. ⌜ r ≡ isPlain quote b ⌝ }
+{
+    if b == quote {
+        return false;
+    }
+    if b == 10 {
+        return false;
+    }
+    if b == 92 {
+        return false;
+    }
+    b < 128
+}
+
+// The place of the first byte from a place on that is the quote, a backslash, a line feed or above 127, or the end.
+fn plain_end(src: &[u8], at: usize, quote: u8) -> usize
+    ensures { λ r. ⌜ r ≡ at + plainLen quote (drop at (now (src .entry))) ⌝ }
+{
+    let mut p = at;
+    while p < src.len() {
+        if !is_plain(src[p], quote) {
+            return p;
+        }
+        p += 1;
+    }
+    p
+}
+
 // The body at a place, closed by the quote given.
 fn body_at(src: &[u8], at: usize, quote: u8) -> Quoted
     requires { ⌜ quote < 128 ⌝ }
@@ -115,8 +164,9 @@ fn body_at(src: &[u8], at: usize, quote: u8) -> Quoted
             q = add(q, n, code, given_len(code, byte), 0, true);
             p += n;
         } else if b < 128 {
-            q = add(q, 1, b as u32, 1, 0, false);
-            p += 1;
+            let end = plain_end(src, p + 1, quote);
+            q = add_plain(q, end - p, b as u32);
+            p = end;
         } else {
             let c = utf8::char_at(src, p);
             let width = c.width;

@@ -18,8 +18,9 @@ use Rattle.quotes.specs.Escape.{bytesOf}
 use Rattle.quotes.specs.Body.{quotedAt}
 use Rattle.quotes.specs.Steps.{errorOf}
 use Rattle.quotes.proofs.Bodies.{escape-gives}
-use Rattle.quotes.proofs.Bounds.{Within, added-within, added-chars, room-stop, room-add, less, fit32, fit64, stray-most, next, still, sooner, one-le, none-le, le-twice, right-part}
-use Rattle.quotes.proofs.Places.{joined, joined-start, escape-fits, step-end, step-quote, step-lf, step-bad, step-escape, step-plain, step-ascii}
+use Rattle.quotes.proofs.Bounds.{Within, added-within, added-chars, room-stop, room-add, less, fit32, fit64, stray-most, next, still, sooner, one-le, none-le, le-twice, right-part, plain-within, plain-chars, room-plain, nearer}
+use Rattle.quotes.proofs.Places.{joined, joined-start, escape-fits, step-end, step-quote, step-lf, step-bad, step-escape, step-plain}
+use Rattle.quotes.proofs.PlainRuns.{run-fits, run-some, step-run}
 use Rattle.quotes.proofs.body.body_at.Statement.{statement}
 use Rattle.quotes.proofs.body.body_at.Tie as tie
 
@@ -61,6 +62,13 @@ char-fits c = there-fits _ _ (c .char-at .result) (c .before .before .before .be
 
 char-least : (c : tie.After-char-at Inv-loop μ-loop) → 1 ≤ c .char-at .result .width
 char-least c = there-least _ _ (c .char-at .result) (c .before .before .before .before .before .before .loop-test .taken) (c .char-at .ensures)
+
+-- a run of plain characters ends within the text, and after its first
+run-inside : (c : tie.After-plain-end Inv-loop μ-loop) → c .plain-end .result ≤ length (c .before .before .before .before .before .before .before .before .before .before .args .src .now)
+run-inside c = run-fits _ _ (c .before .before .before .before .before .before .before .loop .p) (c .plain-end .result) (c .plain-end .ensures) (c .before .before .before .before .before .before .loop-test .taken)
+
+run-ahead : (c : tie.After-plain-end Inv-loop μ-loop) → c .before .before .before .before .before .before .before .loop .p < c .plain-end .result
+run-ahead c = run-some _ _ (c .before .before .before .before .before .before .before .loop .p) (c .plain-end .result) (c .plain-end .ensures)
 
 -- in the else: an escape that gives nothing
 not-value : (g : Given) → OneOf (1 ∷ []) (tagOf (declared enum) g) → g ≡ Bad (errorOf g)
@@ -172,30 +180,37 @@ loop-again c =
           ∙ step-escape (a .quote) (l .before .before .before .pre) (a .src .now) (l .loop .p) (l .loop .q) (c .before .before .before .before .before .before .before .before .before .before .before .loop-test .taken) (c .before .before .before .before .before .before .before .before .before .if1 .left) (c .before .before .before .before .before .before .before .if3 .taken) (x .result) (x .ensures) (v .0 .0) (v .0 .1 .0) (v .1),
     )
 
-cast-add : tie.Need-cast-add Inv-loop μ-loop
-cast-add c = record { fits = fit32 _ (c .if4 .taken) }
+add-plain-end : tie.Need-add-plain-end Inv-loop μ-loop
+add-plain-end c = record { fits = fit64 _ _ (within (c .before .before .before .before .before)) (short (c .before .before .before .before .before .before)) }
 
-add-requires-2 : tie.Need-add-requires-2 Inv-loop μ-loop
-add-requires-2 c κs =
-    let l = c .before .before .before .before .before .before in
-    room-add (l .loop .p) _ 1 (l .loop .q) 1 1 0 (l .loop .inv .0) (within (c .before .before .before .before .before)) (short l) (le-refl 1) (le-refl 1) (none-le 1) (le-twice 1)
+plain-end-requires : tie.Need-plain-end-requires Inv-loop μ-loop
+plain-end-requires c κs = tt
 
-add-p-2 : tie.Need-add-p-2 Inv-loop μ-loop
-add-p-2 c = record { fits = fit64 _ _ (within (c .before .before .before .before .before .before)) (short (c .before .before .before .before .before .before .before)) }
+sub-add-plain : tie.Need-sub-add-plain Inv-loop μ-loop
+sub-add-plain c = sooner _ _ (run-ahead c)
+
+cast-add-plain : tie.Need-cast-add-plain Inv-loop μ-loop
+cast-add-plain c = record { fits = fit32 _ (c .before .if4 .taken) }
+
+add-plain-requires : tie.Need-add-plain-requires Inv-loop μ-loop
+add-plain-requires c κs =
+    let l = c .before .before .before .before .before .before .before in
+    room-plain (l .loop .p) (c .plain-end .result) _ (l .loop .q) (l .loop .inv .0) (run-ahead c) (run-inside c) (short l)
 
 loop-less-2 : tie.Need-loop-less-2 Inv-loop μ-loop
-loop-less-2 c = less (c .before .before .before .before .before .before .before .loop .p) 1 _ (within (c .before .before .before .before .before .before)) (le-refl 1)
+loop-less-2 c = nearer (c .before .before .before .before .before .before .before .before .loop .p) (c .before .plain-end .result) _ (run-ahead (c .before)) (run-inside (c .before))
 
 loop-again-2 : tie.Need-loop-again-2 Inv-loop μ-loop
 loop-again-2 c =
-    let l = c .before .before .before .before .before .before .before in
+    let l = c .before .before .before .before .before .before .before .before in
     let a = l .before .before .before .args in
     let b = getD (a .src .now) (l .loop .p) 0 in
-    rw (c .add2 .ensures) (
-      added-within (l .loop .p) 1 (l .loop .q) 1 b 1 0 false (l .loop .inv .0) (le-refl 1) (le-refl 1) (none-le 1) (le-twice 1),
-      added-chars (l .loop .p) 1 _ (l .loop .q) 1 b 1 0 false (l .loop .inv .0) (within (c .before .before .before .before .before .before)) (le-refl 1),
+    let e = c .before .plain-end in
+    rw (c .add-plain .ensures) (
+      plain-within (l .loop .p) (e .result) (l .loop .q) b (l .loop .inv .0) (run-ahead (c .before)),
+      plain-chars (l .loop .p) (e .result) _ (l .loop .q) b (l .loop .inv .0) (run-ahead (c .before)) (run-inside (c .before)),
       l .loop .inv .2
-          ∙ step-ascii (a .quote) (l .before .before .before .pre) (a .src .now) (l .loop .p) (l .loop .q) (c .before .before .before .before .before .before .loop-test .taken) (c .before .before .before .before .if1 .left) (c .before .before .before .if2 .left) (c .before .before .if3 .left) (c .before .if4 .taken),
+          ∙ step-run (a .quote) (l .before .before .before .pre) (a .src .now) (l .loop .q) (l .loop .p) (e .result) (e .ensures) (c .before .before .before .before .before .before .before .loop-test .taken) (c .before .before .before .before .before .if1 .left) (c .before .before .before .before .if2 .left) (c .before .before .before .if3 .left) (c .before .before .if4 .taken),
     )
 
 char-at-requires : tie.Need-char-at-requires Inv-loop μ-loop
@@ -204,16 +219,16 @@ char-at-requires c κs = tt
 stray-count-requires : tie.Need-stray-count-requires Inv-loop μ-loop
 stray-count-requires c κs = tt
 
-add-requires-3 : tie.Need-add-requires-3 Inv-loop μ-loop
-add-requires-3 c κs =
+add-requires-2 : tie.Need-add-requires-2 Inv-loop μ-loop
+add-requires-2 c κs =
     let l = c .before .before .before .before .before .before .before .before in
     let r = c .before .char-at in
     let least = char-least (c .before) in
     room-add _ _ (r .result .width) (l .loop .q) 1 (r .result .width) (c .stray-count .result) (l .loop .inv .0) (char-fits (c .before)) (short l)
     least least (rw (c .stray-count .ensures) (stray-most (r .result) _ least)) (le-twice _)
 
-add-p-3 : tie.Need-add-p-3 Inv-loop μ-loop
-add-p-3 c = record { fits = fit64 _ _ (char-fits (c .before .before)) (short (c .before .before .before .before .before .before .before .before .before)) }
+add-p-2 : tie.Need-add-p-2 Inv-loop μ-loop
+add-p-2 c = record { fits = fit64 _ _ (char-fits (c .before .before)) (short (c .before .before .before .before .before .before .before .before .before)) }
 
 loop-less-3 : tie.Need-loop-less-3 Inv-loop μ-loop
 loop-less-3 c = less (c .before .before .before .before .before .before .before .before .before .loop .p) (c .before .before .char-at .result .width) _ (char-fits (c .before .before)) (char-least (c .before .before))
@@ -225,7 +240,7 @@ loop-again-3 c =
     let r = c .before .before .char-at in
     let w = r .result .width in
     let least = char-least (c .before .before) in
-    rw (c .add3 .ensures, c .before .stray-count .ensures) (
+    rw (c .add2 .ensures, c .before .stray-count .ensures) (
       added-within (l .loop .p) w (l .loop .q) 1 (r .result .code) w (cond (isStray (r .result)) 1 0) false (l .loop .inv .0) least least (stray-most (r .result) w least) (le-twice w),
       added-chars (l .loop .p) w _ (l .loop .q) 1 (r .result .code) w (cond (isStray (r .result)) 1 0) false (l .loop .inv .0) (char-fits (c .before .before)) least,
       l .loop .inv .2
@@ -271,15 +286,17 @@ body-at-spec =
     add-p
     loop-less
     loop-again
-    cast-add
-    add-requires-2
-    add-p-2
+    add-plain-end
+    plain-end-requires
+    sub-add-plain
+    cast-add-plain
+    add-plain-requires
     loop-less-2
     loop-again-2
     char-at-requires
     stray-count-requires
-    add-requires-3
-    add-p-3
+    add-requires-2
+    add-p-2
     loop-less-3
     loop-again-3
     stop-requires-4

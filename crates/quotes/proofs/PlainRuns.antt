@@ -1,0 +1,116 @@
+-- Runs of ASCII characters that are written as themselves: where they end, and all of them read as one step.
+use Prim.Native.Nat.{ℕ, zero, suc, _+_, _-_, _≤_, _<_, suc-le-suc}
+use mathlib.Core.Path.{_≡_, refl, ap, _∙_}
+use mathlib.Core.Bool.{Bool, true, false, cond, false≢true}
+use mathlib.Core.List.{List, [], _∷_}
+use native.Mathlib.Decide.{decLt}
+use native.Mathlib.Nat.{add-zero}
+use native.Mathlib.Omega.{arith}
+use lib.Dec.{eqb, ltb}
+use lib.ListN.{length, getD, drop, drop-of-length-le, length-drop}
+use borrow.Author.Tests.{ne-eqb, ltb-true}
+use Rattle.basics.proofs.Choice.{cond-ind}
+use Rattle.basics.proofs.Lists.{drop-next}
+use Rattle.quotes.specs.declared.Quoted.{Quoted}
+use Rattle.quotes.specs.Body.{quotedAt}
+use Rattle.quotes.specs.Steps.{added, isPlain, plainLen, addedPlain}
+use Rattle.quotes.proofs.Heads.{not-so}
+use Rattle.quotes.proofs.Places.{joined, step-ascii}
+
+-- ---- such a byte
+record Plain (quote b : ℕ) : Type 0 where
+  no-quote : b ≡ quote → ⊥
+  no-lf : b ≡ 10 → ⊥
+  no-slash : b ≡ 92 → ⊥
+  low : b < 0x80
+
+plain-is : (quote b : ℕ) → isPlain quote b ≡ true → Plain quote b
+unfolding isPlain
+plain-is quote b = go (eqb b quote) (eqb b 10) (eqb b 92) refl refl refl
+  where
+    go : (t u v : Bool) → eqb b quote ≡ t → eqb b 10 ≡ u → eqb b 92 ≡ v → cond t false (cond u false (cond v false (ltb b 0x80))) ≡ true → Plain quote b
+    go true u v f g h e = absurd (false≢true e)
+    go false true v f g h e = absurd (false≢true e)
+    go false false true f g h e = absurd (false≢true e)
+    go false false false f g h e = record { no-quote = not-so _ _ f; no-lf = not-so _ _ g; no-slash = not-so _ _ h; low = ltb-true b 0x80 e }
+
+-- ---- the run at a place
+module _ (quote : ℕ) where
+  pub plain-bound : (t : List ℕ) → plainLen quote t ≤ length t
+  unfolding plainLen
+  plain-bound [] = omega arith
+  plain-bound (b ∷ t) = cond-ind (λ n. n ≤ suc (length t)) (isPlain quote b) _ _ (λ _. suc-le-suc (plain-bound t)) (λ _. omega arith)
+
+  module _ (s : List ℕ) (p : ℕ) where
+    pub plain-over : length s ≤ p → plainLen quote (drop p s) ≡ 0
+    unfolding plainLen
+    plain-over h = rw (drop-of-length-le s h)
+
+    module _ (h : p < length s) where
+      pub plain-next : isPlain quote (getD s p 0) ≡ true → plainLen quote (drop p s) ≡ suc (plainLen quote (drop (p + 1) s))
+      unfolding plainLen
+      plain-next e = rw (drop-next s p 0 h, e)
+
+      pub plain-stop : isPlain quote (getD s p 0) ≡ false → plainLen quote (drop p s) ≡ 0
+      unfolding plainLen
+      plain-stop e = rw (drop-next s p 0 h, e)
+
+    -- one that begins after a place
+    module _ (end : ℕ) (is : end ≡ p + 1 + plainLen quote (drop (p + 1) s)) where
+      pub run-fits : p < length s → end ≤ length s
+      run-fits h = omega (arith, is, plain-bound (drop (p + 1) s), length-drop (p + 1) s)
+
+      pub run-some : p < end
+      run-some = omega (arith, is)
+
+-- ---- n characters and one more are a step of n + 1
+one-more : (q : Quoted) (m code b : ℕ) → added (addedPlain q (suc m) code) 1 b 1 0 false ≡ addedPlain q (suc (suc m)) code
+unfolding added addedPlain
+one-more q m code b =
+    let e1 : q .chars + suc m + 1 ≡ q .chars + suc (suc m) = omega arith in
+    let e2 : q .count + suc m + 1 ≡ q .count + suc (suc m) = omega arith in
+    let e3 : cond (eqb (q .count + suc m) 0) b (cond (eqb (q .count) 0) code (q .code)) ≡ cond (eqb (q .count) 0) code (q .code) = rw (ne-eqb (q .count + suc m) 0 (λ z. omega arith)) in
+    let e4 : q .bytes + suc m + 1 ≡ q .bytes + suc (suc m) = omega arith in
+    λ i. record { end = q .end; chars = e1 i; closed = q .closed; error = q .error; count = e2 i; code = e3 i; escaped = q .escaped; strays = add-zero (q .strays) i; bytes = e4 i }
+
+first-one : (q : Quoted) (code : ℕ) → added q 1 code 1 0 false ≡ addedPlain q 1 code
+unfolding added addedPlain
+first-one q code = rw (add-zero (q .strays))
+
+module _ (quote : ℕ) (low : quote < 0x80) (s : List ℕ) (q : Quoted) where
+  step-one : (p : ℕ) (x : Quoted) → p < length s → Plain quote (getD s p 0) → joined x (quotedAt quote s p) ≡ joined (added x 1 (getD s p 0) 1 0 false) (quotedAt quote s (p + 1))
+  step-one p x h f = step-ascii quote low s p x h (f .no-quote) (f .no-lf) (f .no-slash) (f .low)
+
+  -- after a character, n more
+  more : (code n p m : ℕ) → n ≡ plainLen quote (drop p s)
+      → joined (addedPlain q (suc m) code) (quotedAt quote s p) ≡ joined (addedPlain q (suc m + n) code) (quotedAt quote s (p + n))
+  more code zero p m e = rw (add-zero p, add-zero (suc m))
+  more code (suc n) p m e =
+      elim (decLt p (length s)) [
+        | yes h ↦ go h (isPlain quote (getD s p 0)) refl (more code n (p + 1) (suc m))
+        | no h ↦ absurd (omega (arith, plain-over quote s p (omega arith)))
+      ]
+    where
+      go : p < length s → (t : Bool) → isPlain quote (getD s p 0) ≡ t
+          → (n ≡ plainLen quote (drop (p + 1) s) → joined (addedPlain q (suc (suc m)) code) (quotedAt quote s (p + 1)) ≡ joined (addedPlain q (suc (suc m) + n) code) (quotedAt quote s (p + 1 + n)))
+          → joined (addedPlain q (suc m) code) (quotedAt quote s p) ≡ joined (addedPlain q (suc m + suc n) code) (quotedAt quote s (p + suc n))
+      go h false f ih = absurd (omega (arith, plain-stop quote s p h f))
+      go h true f ih =
+          let place : p + suc n ≡ p + 1 + n = omega arith in
+          let total : suc m + suc n ≡ suc (suc m) + n = omega arith in
+          rw (place, total)
+          (step-one p (addedPlain q (suc m) code) h (plain-is quote (getD s p 0) f)
+          ∙ ap (λ x. joined x (quotedAt quote s (p + 1))) (one-more q m code (getD s p 0))
+          ∙ ih (omega (arith, plain-next quote s p h f)))
+
+  -- the run that begins at a place where such a byte stands
+  pub step-run : (p end : ℕ) → end ≡ p + 1 + plainLen quote (drop (p + 1) s)
+      → p < length s → (getD s p 0 ≡ quote → ⊥) → (getD s p 0 ≡ 10 → ⊥) → (getD s p 0 ≡ 92 → ⊥) → getD s p 0 < 0x80
+      → joined q (quotedAt quote s p) ≡ joined (addedPlain q (end - p) (getD s p 0)) (quotedAt quote s end)
+  step-run p end is h no-quote no-lf no-slash l =
+      let n = plainLen quote (drop (p + 1) s) in
+      let total : end - p ≡ 1 + n = omega (arith, is) in
+      rw (total, is)
+      (step-ascii quote low s p q h no-quote no-lf no-slash l
+      ∙ ap (λ x. joined x (quotedAt quote s (p + 1))) (first-one q (getD s p 0))
+      ∙ more (getD s p 0) n (p + 1) 0 refl)
