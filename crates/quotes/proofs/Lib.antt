@@ -6,6 +6,7 @@ pub mod Reading
 pub mod Bounds
 pub mod Places
 pub mod PlainRuns
+pub mod Stops
 pub mod Local
 pub mod Shown
 pub mod Shorter

@@ -35,6 +35,10 @@ unfoldable pub plainLen : ℕ → List ℕ → ℕ
 plainLen quote [] = 0
 plainLen quote (b ∷ s) = cond (isPlain quote b) (suc (plainLen quote s)) 0
 
+-- the mark of any other byte, for the search by eight bytes
+unfoldable pub stopMark : ℕ → ℕ → ℕ
+stopMark quote b = cond (isPlain quote b) 0 0x80
+
 -- n of them more, by the code of the first
 unfoldable pub addedPlain : Quoted → ℕ → ℕ → Quoted
 addedPlain q n code =

@@ -4,13 +4,14 @@ use crate::Quoted;
 use crate::escapes::escape_at;
 ghost use mathlib.Core.Path.{_≡_};
 ghost use mathlib.Core.Bool.{cond};
-ghost use Prim.Native.Nat.{_+_, _<_, _^_};
+ghost use Prim.Native.Nat.{_+_, _<_, _≤_, _^_, min};
 ghost use lib.ListN.{length, drop};
+ghost use Rattle.lanes.specs.Lanes.{lanes};
 ghost use Rattle.utf8.specs.Chars.{isStray};
 ghost use Rattle.quotes.specs.Escape.{bytesOf};
 ghost use Rattle.quotes.specs.declared.Given.the-variants.{Value};
 ghost use Rattle.quotes.specs.Body.{quotedAt};
-ghost use Rattle.quotes.specs.Steps.{isPlain, plainLen, nothing, added, addedPlain, stopped, errorOf};
+ghost use Rattle.quotes.specs.Steps.{isPlain, plainLen, stopMark, nothing, added, addedPlain, stopped, errorOf};
 
 // Before the first character.
 fn nothing_read(at: usize) -> Quoted
@@ -125,8 +126,8 @@ fn is_plain(b: u8, quote: u8) -> bool
     b < 128
 }
 
-// The place of the first byte from a place on that is the quote, a backslash, a line feed or above 127, or the end.
-fn plain_end(src: &[u8], at: usize, quote: u8) -> usize
+// The place of the first byte from a place on that is the quote, a backslash, a line feed or above 127, or the end; byte by byte.
+fn near_end(src: &[u8], at: usize, quote: u8) -> usize
     ensures { λ r. ⌜ r ≡ at + plainLen quote (drop at (now (src .entry))) ⌝ }
 {
     let mut p = at;
@@ -137,6 +138,43 @@ fn plain_end(src: &[u8], at: usize, quote: u8) -> usize
         p += 1;
     }
     p
+}
+
+// For each of eight bytes 0x80 where it is the quote, a backslash, a line feed or above 127, else 0. A test's answer is the top bit of
+// each byte: that of a sum with the byte's low seven bits, which never reaches into the next byte.
+fn stops(w: u64, quote: u8) -> u64
+    requires { ⌜ quote < 128 ⌝ }
+    ensures { λ r. ⌜ r ≡ lanes 8 (stopMark quote) w ⌝ }
+{
+    let low = w & 0x7F7F_7F7F_7F7F_7F7F;
+    let no_quote = (low ^ (quote as u64 * 0x0101_0101_0101_0101)) + 0x7F7F_7F7F_7F7F_7F7F;
+    let no_lf = (low ^ 0x0A0A_0A0A_0A0A_0A0A) + 0x7F7F_7F7F_7F7F_7F7F;
+    let no_slash = (low ^ 0x5C5C_5C5C_5C5C_5C5C) + 0x7F7F_7F7F_7F7F_7F7F;
+    (!(no_lf & no_slash & no_quote) | w) & 0x8080_8080_8080_8080
+}
+
+// How many of the eight bytes at a place come before the first of those.
+fn plain_at(src: &[u8], at: usize, quote: u8) -> usize
+    requires { ⌜ (quote < 128) × (at + 8 ≤ length (now src)) ⌝ }
+    ensures { λ r. ⌜ r ≡ min 8 (plainLen quote (drop at (now (src .entry)))) ⌝ }
+{
+    u64::trailing_zeros(stops(lanes::eight(src, at), quote)) as usize / 8
+}
+
+// The place of the first of those from a place on, or the end; by eight bytes where they are there.
+fn plain_end(src: &[u8], at: usize, quote: u8) -> usize
+    requires { ⌜ quote < 128 ⌝ }
+    ensures { λ r. ⌜ r ≡ at + plainLen quote (drop at (now (src .entry))) ⌝ }
+{
+    let mut p = at;
+    while lanes::has_eight(src, p) {
+        let n = plain_at(src, p, quote);
+        if n < 8 {
+            return p + n;
+        }
+        p += 8;
+    }
+    near_end(src, p, quote)
 }
 
 // The body at a place, closed by the quote given.

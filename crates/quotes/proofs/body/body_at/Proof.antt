@@ -184,7 +184,7 @@ add-plain-end : tie.Need-add-plain-end Inv-loop μ-loop
 add-plain-end c = record { fits = fit64 _ _ (within (c .before .before .before .before .before)) (short (c .before .before .before .before .before .before)) }
 
 plain-end-requires : tie.Need-plain-end-requires Inv-loop μ-loop
-plain-end-requires c κs = tt
+plain-end-requires c κs = c .before .before .before .before .before .before .before .before .before .pre
 
 sub-add-plain : tie.Need-sub-add-plain Inv-loop μ-loop
 sub-add-plain c = sooner _ _ (run-ahead c)

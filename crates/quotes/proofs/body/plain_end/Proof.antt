@@ -1,12 +1,11 @@
 -- `quotes::body::plain_end` meets its contract. The loop's invariant: the run ends where it would from here.
-use Prim.Native.Nat.{_+_, _-_}
+use Prim.Native.Nat.{_+_, _-_, _≤_}
 use mathlib.Core.Path.{_≡_, refl, sym, _∙_}
 use native.Mathlib.Omega.{arith}
-use borrow.Author.Needs.{needs}
-use borrow.Author.Tests.{not-true, not-false}
+use borrow.Author.Tests.{leb-true}
 use lib.ListN.{length, drop}
 use Rattle.quotes.specs.Steps.{plainLen}
-use Rattle.quotes.proofs.PlainRuns.{plain-over, plain-next, plain-stop}
+use Rattle.quotes.proofs.Stops.{run-skip}
 use Rattle.quotes.proofs.body.plain_end.Statement.{statement}
 use Rattle.quotes.proofs.body.plain_end.Tie as tie
 
@@ -19,36 +18,40 @@ abbrev μ-loop : tie.MeasureT-loop
 loop-holds : tie.Need-loop-holds Inv-loop μ-loop
 loop-holds c = refl
 
-shared-slice-read-is-plain : tie.Need-shared-slice-read-is-plain Inv-loop μ-loop
-shared-slice-read-is-plain c = search needs
+inside : (c : tie.Then1 Inv-loop μ-loop) → let l = c .before .before in l .loop .p + 8 ≤ length (l .before .before .args .src .now)
+inside c =
+    let l = c .before .before in
+    leb-true (l .loop .p + 8) (length (l .before .before .args .src .now)) (sym (c .before .has-eight .ensures) ∙ c .if1 .taken)
 
-is-plain-requires : tie.Need-is-plain-requires Inv-loop μ-loop
-is-plain-requires c κs = tt
+has-eight-requires : tie.Need-has-eight-requires Inv-loop μ-loop
+has-eight-requires c κs = tt
+
+plain-at-requires : tie.Need-plain-at-requires Inv-loop μ-loop
+plain-at-requires c κs = (c .before .before .before .before .pre, inside c)
+
+add-result : tie.Need-add-result Inv-loop μ-loop
+add-result c = omega (arith, inside (c .before .before))
 
 returns : tie.Need-returns Inv-loop μ-loop
-returns c =
-    let l = c .before .before .before .before in
-    let a = l .before .before .args in
-    let none = plain-stop (a .quote) (a .src .now) (l .loop .p) (c .before .before .before .loop-test .taken) (sym (c .before .is-plain .ensures) ∙ not-true _ (c .if1 .taken)) in
-    omega (arith, l .loop .inv, none)
+returns c = omega (arith, c .before .before .before .before .loop .inv, c .before .plain-at .ensures)
 
 add-p : tie.Need-add-p Inv-loop μ-loop
-add-p c = omega arith
+add-p c = omega (arith, inside (c .before .before))
 
 loop-less : tie.Need-loop-less Inv-loop μ-loop
-loop-less c = omega arith
+loop-less c = omega (arith, inside (c .before .before))
 
 loop-again : tie.Need-loop-again Inv-loop μ-loop
 loop-again c =
     let l = c .before .before .before .before in
     let a = l .before .before .args in
-    let next = plain-next (a .quote) (a .src .now) (l .loop .p) (c .before .before .before .loop-test .taken) (sym (c .before .is-plain .ensures) ∙ not-false _ (c .if1 .left)) in
-    omega (arith, l .loop .inv, next)
+    omega (arith, l .loop .inv, run-skip (a .quote) (a .src .now) 8 (l .loop .p) (omega (arith, c .before .plain-at .ensures)))
+
+near-end-requires : tie.Need-near-end-requires Inv-loop μ-loop
+near-end-requires c κs = tt
 
 returns-2 : tie.Need-returns-2 Inv-loop μ-loop
-returns-2 c =
-    let a = c .before .before .before .args in
-    omega (arith, c .before .loop .inv, plain-over (a .quote) (a .src .now) (c .before .loop .p) (c .loop-test .left))
+returns-2 c = c .near-end .ensures ∙ sym (c .before .before .before .loop .inv)
 
 pub plain-end-spec : {M : Type 1} → statement M
 plain-end-spec =
@@ -57,10 +60,12 @@ plain-end-spec =
     Inv-loop
     μ-loop
     loop-holds
-    shared-slice-read-is-plain
-    is-plain-requires
+    has-eight-requires
+    plain-at-requires
+    add-result
     returns
     add-p
     loop-less
     loop-again
+    near-end-requires
     returns-2)
