@@ -4,3 +4,5 @@ pub mod Pass
 pub mod Refusals
 pub mod Scans
 pub mod Committed
+pub mod Parts
+pub mod Given

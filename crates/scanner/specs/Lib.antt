@@ -1,2 +1,4 @@
 pub mod Scan
 pub mod Steps
+pub mod Layout
+pub mod Many

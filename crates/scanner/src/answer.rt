@@ -23,6 +23,11 @@ pub struct Token {
     pub value: Part,
 }
 
+impl Token {
+    // How many numbers a token is.
+    pub const NUMBERS: usize = 10;
+}
+
 // The refusal, or 0; the state after the scan; the token. A scan that is refused leaves the state as it was, and gives no token.
 pub struct Scanned {
     pub refusal: u8,

@@ -1,10 +1,14 @@
-// The scanner: opening a text, one scan, and questions about it.
+// The scanner: opening a text, one scan or many, and questions about it.
 mod answer;
+mod batch;
+mod layout;
 mod scanning;
 mod write;
 
 pub use answer::Scanned;
 pub use answer::Token;
+pub use batch::Batch;
+pub use batch::scan_many;
 pub use scanning::scan;
 pub use state::Opened;
 pub use state::Part;

@@ -13,7 +13,8 @@ use Rattle.errors.specs.Layout.{width, numbers}
 use Rattle.state.specs.Opening.{Begun, openOf}
 use Rattle.state.specs.Queries.{positionIn, lineStartIn, errorIn}
 use Rattle.scanner.specs.Scan.{After, scanOf}
-use Rattle.scanner_c.specs.Numbers.{stateWidth, tokenWidth, stateIn, stateNumbers, tokenNumbers, noError}
+use Rattle.scanner.specs.Layout.{tokenWidth, tokenNumbers}
+use Rattle.scanner_c.specs.Numbers.{stateWidth, stateIn, stateNumbers, noError}
 
 -- what opening leaves in the lent slices, and its refusal or 0
 pub record Opened : Type 0 where

@@ -1,22 +1,15 @@
--- States, tokens and errors as lists of numbers.
+-- States as lists of numbers, and no error.
 use Prim.Native.Nat.{ℕ}
-use mathlib.Core.Bool.{Bool, true, false, not}
+use mathlib.Core.Bool.{not}
 use mathlib.Core.List.{List, [], _∷_}
 use lib.Dec.{eqb}
 use lib.ListN.{getD}
 use Rattle.errors.specs.declared.layout.Error.{Error}
 use Rattle.state.specs.declared.state.State.{State}
-use Rattle.scanner.specs.declared.answer.Token.{Token}
+use Rattle.scanner.specs.Layout.{bit}
 
 abbrev pub stateWidth : ℕ
 stateWidth = 7
-
-abbrev pub tokenWidth : ℕ
-tokenWidth = 10
-
-abbrev pub bit : Bool → ℕ
-bit true = 1
-bit false = 0
 
 -- the state that the first seven numbers are; any number but 0 is a set mark
 abbrev pub stateIn : List ℕ → State
@@ -33,12 +26,6 @@ stateIn n =
 
 abbrev pub stateNumbers : State → List ℕ
 stateNumbers s = s .base ∷ s .size ∷ s .place ∷ s .offset ∷ bit (s .mark) ∷ s .lines ∷ s .errors ∷ []
-
-abbrev pub tokenNumbers : Token → List ℕ
-tokenNumbers t =
-    t .kind ∷ bit (t .inserted) ∷ t .position ∷ t .code
-    ∷ bit (t .text .area) ∷ t .text .start ∷ t .text .end
-    ∷ bit (t .value .area) ∷ t .value .start ∷ t .value .end ∷ []
 
 abbrev pub noError : Error
 noError = record { offset = 0; line = 0; column = 0; number = 0 }

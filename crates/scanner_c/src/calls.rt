@@ -3,18 +3,18 @@
 use crate::layout::ERROR;
 use crate::layout::POSITION;
 use crate::layout::STATE;
-use crate::layout::TOKEN;
 use crate::layout::no_error;
 use crate::layout::put_error;
 use crate::layout::put_state;
-use crate::layout::put_token;
 use crate::layout::state_in;
 use errors::Got;
 use position::Answer;
 use position::Located;
 use scanner::Opened;
+use scanner::Token;
 ghost use mathlib.Core.Path.{_≡_};
 ghost use Rattle.scanner_c.specs.Calls.{openNumbers, scanNumbers, positionNumbers, lineStartNumbers, errorNumbers};
+ghost use Rattle.scanner_c.specs.Many.{scanManyNumbers};
 
 // Opens a source: the first state goes to `state`, the number of characters to `answer`; for refusal 1 the place of the bad byte goes there.
 #[no_mangle]
@@ -53,7 +53,7 @@ pub extern "C" fn scanner_open(
     }
 }
 
-// Scans one token. A refused scan leaves every slice as it was.
+// Scans one token: many scans with room for one. A refused scan leaves every slice as it was.
 #[no_mangle]
 pub extern "C" fn scanner_scan(
     src: &[u8],
@@ -69,16 +69,53 @@ pub extern "C" fn scanner_scan(
     if state.len() < STATE {
         return refusal::DOES_NOT_FIT;
     }
-    if token.len() < TOKEN {
+    if token.len() < Token::NUMBERS {
         return refusal::DOES_NOT_FIT;
     }
-    let scanned = scanner::scan(src, state_in(state), table, list, area);
-    if scanned.refusal != 0 {
-        return scanned.refusal;
+    let ran = scanner::scan_many(
+        src,
+        state_in(state),
+        table,
+        list,
+        area,
+        &mut token[..Token::NUMBERS],
+    );
+    if ran.refusal != 0 {
+        return ran.refusal;
     }
-    put_state(scanned.state, state);
-    put_token(scanned.token, token);
+    put_state(ran.state, state);
     0
+}
+
+// Scans token after token, as many as `tokens` has room for, ten numbers each. It stops behind a token that shows something from the text
+// area, since the next scan would write over it, behind EOF, and at a refusal, which it answers; `answer` gets the number of tokens given.
+// State and buffers are those that so many scans leave.
+#[no_mangle]
+pub extern "C" fn scanner_scan_many(
+    src: &[u8],
+    state: &mut [usize],
+    table: &mut [usize],
+    list: &mut [usize],
+    area: &mut [u8],
+    tokens: &mut [usize],
+    answer: &mut [usize],
+) -> u8
+    ensures { λ r. ⌜ record { refusal = r; state = now (state .exit); table = now (table .exit); list = now (list .exit); area = now (area .exit); tokens = now (tokens .exit); answer = now (answer .exit) }
+        ≡ scanManyNumbers (now (src .entry)) (now (state .entry)) (now (table .entry)) (now (list .entry)) (now (area .entry)) (now (tokens .entry)) (now (answer .entry)) ⌝ }
+{
+    if state.len() < STATE {
+        return refusal::DOES_NOT_FIT;
+    }
+    if answer.len() < 1 {
+        return refusal::DOES_NOT_FIT;
+    }
+    let ran = scanner::scan_many(src, state_in(state), table, list, area, tokens);
+    answer[0] = ran.count;
+    if ran.count == 0 {
+        return ran.refusal;
+    }
+    put_state(ran.state, state);
+    ran.refusal
 }
 
 // The offset, line and column of a position.

@@ -1,17 +1,15 @@
-// A state in seven numbers, a token in ten, a position in three, an error in four.
+// A state in seven numbers, a position in three, an error in four.
 use errors::Error;
 use scanner::State;
-use scanner::Token;
 ghost use mathlib.Core.Path.{_≡_};
 ghost use Prim.Native.Nat.{_≤_};
 ghost use lib.ListN.{length};
 ghost use lib.Seq.{sets};
 ghost use Rattle.errors.specs.Layout.{width, numbers};
-ghost use Rattle.scanner_c.specs.Numbers.{bit, stateIn, stateNumbers, tokenNumbers, stateWidth, tokenWidth, noError};
+ghost use Rattle.scanner.specs.Layout.{bit};
+ghost use Rattle.scanner_c.specs.Numbers.{stateIn, stateNumbers, stateWidth, noError};
 
 pub(crate) const STATE: usize = 7;
-
-pub(crate) const TOKEN: usize = 10;
 
 pub(crate) const POSITION: usize = 3;
 
@@ -52,23 +50,6 @@ pub(crate) fn put_state(s: State, n: &mut [usize])
     n[4] = bit_of(s.mark);
     n[5] = s.lines;
     n[6] = s.errors;
-}
-
-// Writes a token to the first numbers of a slice.
-pub(crate) fn put_token(t: Token, n: &mut [usize])
-    requires { ⌜ tokenWidth ≤ length (now n) ⌝ }
-    ensures { λ r. ⌜ now (n .exit) ≡ sets (now (n .entry)) 0 (tokenNumbers t) ⌝ }
-{
-    n[0] = t.kind as usize;
-    n[1] = bit_of(t.inserted);
-    n[2] = t.position;
-    n[3] = t.code as usize;
-    n[4] = bit_of(t.text.area);
-    n[5] = t.text.start;
-    n[6] = t.text.end;
-    n[7] = bit_of(t.value.area);
-    n[8] = t.value.start;
-    n[9] = t.value.end;
 }
 
 // Writes an error to the first numbers of a slice.

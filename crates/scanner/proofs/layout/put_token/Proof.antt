@@ -2,8 +2,8 @@
 use native.Mathlib.Omega.{arith}
 use lib.ListN.{length-set}
 use borrow.Author.Needs.{needs}
-use Rattle.scanner_c.proofs.layout.put_token.Statement.{statement}
-use Rattle.scanner_c.proofs.layout.put_token.Tie as tie
+use Rattle.scanner.proofs.layout.put_token.Statement.{statement}
+use Rattle.scanner.proofs.layout.put_token.Tie as tie
 
 cast-n : tie.Need-cast-n
 cast-n c = search needs
