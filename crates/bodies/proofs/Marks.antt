@@ -45,7 +45,7 @@ not-lows w = lows w + 0x7272_7272_7272_7272
 abbrev not-stops : ℕ → ℕ → ℕ
 not-stops x w = bitXor (lows w) (x * 0x0101_0101_0101_0101) + 0x7F7F_7F7F_7F7F_7F7F
 
-abbrev pub marks : ℕ → ℕ → ℕ
+abbrev marks : ℕ → ℕ → ℕ
 marks x w = bitAnd (bitOr (0xFFFF_FFFF_FFFF_FFFF - bitAnd (not-lows w) (not-stops x w)) w) 0x8080_8080_8080_8080
 
 -- what they shall be
@@ -137,9 +137,6 @@ module _ (w : ℕ) (h : w < 2 ^ 64) where
   not-stops-each x l =
       ap₂ (λ m n. m + n) (ap₂ bitXor lows-each (all x) ∙ lanes-xor low (λ b. x) low-small (const-small x (omega arith)) 8 w) (all 0x7F)
       ∙ lanes-add (λ b. bitXor (low b) x) (λ b. 0x7F) 8 w
-
-  pub not-lows-fit : not-lows w < 2 ^ 64
-  not-lows-fit = rw not-lows-each (lanes-fit 8 not-low w not-low-small)
 
   pub not-stops-fit : (x : ℕ) → x < 0x80 → not-stops x w < 2 ^ 64
   not-stops-fit x l = rw (not-stops-each x l) (lanes-fit 8 (not-stop x) w (not-stop-small x l))

@@ -1,10 +1,13 @@
 -- `bodies::plain::run_len` meets its contract: nothing overflows, and each byte is marked by itself.
 use mathlib.Core.Path.{sym, _∙_}
+use native.Mathlib.Nat.{lt-of-le-of-lt}
 use native.Mathlib.Omega.{arith}
 use borrow.Author.Needs.{needs}
 use borrow.Author.Tests.{not-false, leb-true}
+use lib.Bits.{and-le-r}
 use lib.Count.{trailing-le}
-use Rattle.bodies.proofs.Marks.{marks, not-lows-fit, not-stops-fit, run-none, run-of-eight}
+use lib.Dec.{lit<}
+use Rattle.bodies.proofs.Marks.{not-stops-fit, run-none, run-of-eight}
 use Rattle.bodies.proofs.plain.run_len.Statement.{statement}
 use Rattle.bodies.proofs.plain.run_len.Tie as tie
 
@@ -18,7 +21,7 @@ eight-requires : tie.Need-eight-requires
 eight-requires c κs = tt
 
 add-not-low : tie.Need-add-not-low
-add-not-low c = record { fits = not-lows-fit (c .eight .result) (search needs) }
+add-not-low c = omega (arith, and-le-r (c .eight .result) 0x7F7F_7F7F_7F7F_7F7F)
 
 mul-not-stop : tie.Need-mul-not-stop
 mul-not-stop c = search needs
@@ -29,7 +32,7 @@ add-not-stop c =
     record { fits = not-stops-fit (c .eight .result) (search needs) (s .args .stop) (s .pre .0) }
 
 cast-result : tie.Need-cast-result
-cast-result c = omega (arith, trailing-le 64 (marks (c .before .before .before .before .args .stop) (c .eight .result)))
+cast-result c = record { fits = lt-of-le-of-lt (trailing-le 64 _) (lit< tt) }
 
 returns-2 : tie.Need-returns-2
 returns-2 c =
