@@ -1,4 +1,4 @@
--- Laws of blocks of plain bytes: the test byte by byte, and a body that is read over one.
+-- Laws of plain bytes: the test of a block byte by byte, and a body that is read over n of them.
 use Prim.Native.Nat.{ℕ, zero, suc, _+_, _≤_, _<_}
 use mathlib.Core.Path.{_≡_, refl, sym, ap, _∙_}
 use mathlib.Core.Bool.{Bool, true, false, not, _||_, true≢false}
@@ -17,7 +17,7 @@ use Rattle.utf8.specs.Chars.{charAt}
 use Rattle.bodies.specs.declared.body.Body.{Body}
 use Rattle.bodies.specs.Span.{Span, more, toStarSlash}
 use Rattle.bodies.specs.Body.{grown}
-use Rattle.bodies.specs.Plain.{special, anySpecial, plainBlock}
+use Rattle.bodies.specs.Plain.{special, anySpecial, plainBlock, PlainRun}
 use Rattle.bodies.proofs.Bodies.{Reading, reading-next, grown-ascii, same-body, slash-more}
 
 or-split : (a b : Bool) → a || b ≡ false → (a ≡ false) × (b ≡ false)
@@ -50,11 +50,11 @@ module _ (x : ℕ) (s : List ℕ) (at : ℕ) where
   unfolding plainBlock
   block-there t h e = rw (le-leb (at + 16) (length s) h, e)
 
-  pub block-true : plainBlock x s at ≡ true → (at + 16 ≤ length s) × (anySpecial x (take 16 (drop at s)) ≡ false)
+  pub block-true : plainBlock x s at ≡ true → PlainRun x s at 16
   unfolding plainBlock
   block-true e =
       let q = and-split (leb (at + 16) (length s)) _ e in
-      (leb-true (at + 16) (length s) (q .0), not-true _ (q .1))
+      record { fits = leb-true (at + 16) (length s) (q .0); plain = not-true _ (q .1) }
 
 -- ---- a body that is read over plain bytes
 abbrev pub skipped : Body → ℕ → Body
@@ -80,12 +80,12 @@ slash-on star k s p h e r = slash-more s p h r star (rw k) ∙ ap (λ t. more (t
 -- f goes on at a plain byte
 module _ (w : Body) (f : List Char → Span) (x : ℕ) (s : List ℕ)
     (on : (p : ℕ) → p < length s → eqb (getD s p 0) x ≡ false → (r : List Char) → f (charAt s p ∷ r) ≡ more (f r)) where
-  pub reading-plain : (n : ℕ) (b : Body) → b .end + n ≤ length s → anySpecial x (take n (drop (b .end) s)) ≡ false → Reading w f s b → Reading w f s (skipped b n)
-  reading-plain zero b h e i = rw (add-zero (b .end), add-zero (b .chars)) i
-  reading-plain (suc n) b h e i =
+  pub reading-plain : (n : ℕ) (b : Body) → PlainRun x s (b .end) n → Reading w f s b → Reading w f s (skipped b n)
+  reading-plain zero b h i = rw (add-zero (b .end), add-zero (b .chars)) i
+  reading-plain (suc n) b h i =
       let l : b .end < length s = omega arith in
-      let q = or-split (special x (getD s (b .end) 0)) (anySpecial x (take n (drop (b .end + 1) s))) (rw (drop-next s (b .end) 0 l) at e) in
+      let q = or-split (special x (getD s (b .end) 0)) (anySpecial x (take n (drop (b .end + 1) s))) (rw (drop-next s (b .end) 0 l) at (h .plain)) in
       let k = or-split (ltb (getD s (b .end) 0) 14 || ltb 127 (getD s (b .end) 0)) (eqb (getD s (b .end) 0) x) (q .0) in
       let j = reading-next w f s b i l (skipped b 1) false (one-plain x s b l (i .not-yet) (q .0)) refl f (on (b .end) l (k .1)) in
       let a : (m : ℕ) → m + 1 + n ≡ m + suc n = λ m. omega arith in
-      rw (a (b .end), a (b .chars)) at (reading-plain n (skipped b 1) (omega arith) (q .1) j)
+      rw (a (b .end), a (b .chars)) at (reading-plain n (skipped b 1) (record { fits = omega arith; plain = q .1 }) j)

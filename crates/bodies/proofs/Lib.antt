@@ -1,6 +1,7 @@
 pub mod Chars
 pub mod Bodies
 pub mod Blocks
+pub mod Marks
 pub mod Lines
 pub mod Spans
 pub mod LineEnds

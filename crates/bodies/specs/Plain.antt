@@ -1,5 +1,6 @@
--- Blocks of plain bytes, which a body is read over at once.
-use Prim.Native.Nat.{ℕ, _+_}
+-- Plain bytes, which a body is read over at once. No public contract cites these.
+use Prim.Native.Nat.{ℕ, _+_, _≤_}
+use mathlib.Core.Path.{_≡_}
 use mathlib.Core.Bool.{Bool, false, not, _&&_, _||_}
 use mathlib.Core.List.{List, [], _∷_}
 use lib.Dec.{ltb, leb, eqb}
@@ -16,3 +17,8 @@ anySpecial stop (b ∷ s) = special stop b || anySpecial stop s
 -- do 16 plain bytes stand at a place
 unfoldable pub plainBlock : ℕ → List ℕ → ℕ → Bool
 plainBlock stop s at = leb (at + 16) (length s) && not (anySpecial stop (take 16 (drop at s)))
+
+-- n plain bytes stand at a place
+pub record PlainRun (stop : ℕ) (s : List ℕ) (at n : ℕ) : Type 0 where
+  pub fits : at + n ≤ length s
+  pub plain : anySpecial stop (take n (drop at s)) ≡ false

@@ -73,22 +73,22 @@ fn body_to(src: &[u8], at: usize, stop: u8) -> Body
     ensures { λ r. ⌜ r ≡ stopBody stop at (chars (drop at (now (src .entry)))) ⌝ }
 {
     let mut body = empty(at);
-    // before this place no block of plain bytes is tried again
-    let mut tried = at;
     while body.end < src.len() {
         let p = body.end;
-        if tried <= p {
-            if plain::is_block(src, p, stop) {
-                body.end = p + 16;
-                body.chars += 16;
-                continue;
-            }
-            tried = p + 16;
+        if plain::is_block(src, p, stop) {
+            body.end = p + 16;
+            body.chars += 16;
+            continue;
         }
-        let closes = src[p] == stop;
-        body = grow(src, body, closes);
-        if closes {
-            return body;
+        let n = plain::run_len(src, p, stop);
+        body.end = p + n;
+        body.chars += n;
+        if n < 8 {
+            let closes = src[p + n] == stop;
+            body = grow(src, body, closes);
+            if closes {
+                return body;
+            }
         }
     }
     body

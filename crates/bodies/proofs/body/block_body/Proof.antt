@@ -1,17 +1,17 @@
 -- `bodies::body::block_body` meets its contract. The loop's invariant: what was read and what is left make the whole.
-use Prim.Native.Nat.{_+_, _-_, _≤_}
-use mathlib.Core.Path.{_≡_, refl, sym, _∙_}
+use Prim.Native.Nat.{_-_}
+use mathlib.Core.Path.{refl, sym, _∙_}
 use mathlib.Core.Bool.{false}
 use native.Mathlib.Omega.{arith}
 use borrow.Author.Needs.{needs}
 use borrow.Author.Tests.{not-true}
 use lib.Dec.{eqb}
-use lib.ListN.{length, getD, take, drop}
+use lib.ListN.{length, getD, drop}
 use Rattle.basics.proofs.Choice.{and-split}
 use Rattle.utf8.specs.Chars.{chars}
 use Rattle.bodies.specs.Span.{toStarSlash}
 use Rattle.bodies.specs.Body.{blockBody}
-use Rattle.bodies.specs.Plain.{anySpecial}
+use Rattle.bodies.specs.Plain.{PlainRun}
 use Rattle.bodies.proofs.Bodies.{Reading, reading-start, reading-end, reading-last, grown-end, reading-next, slash-last, slash-more}
 use Rattle.bodies.proofs.Blocks.{block-true, reading-plain, slash-on}
 use Rattle.bodies.proofs.body.block_body.Statement.{statement}
@@ -34,18 +34,17 @@ is-block-requires c κs = tt
 
 -- the block that was found lies within the text
 found : (c : tie.Then3 Inv-loop μ-loop)
-    → (c .before .before .before .before .before .loop .body .end + 16 ≤ length (c .before .before .before .before .before .before .before .before .args .src .now))
-    × (anySpecial 42 (take 16 (drop (c .before .before .before .before .before .loop .body .end) (c .before .before .before .before .before .before .before .before .args .src .now))) ≡ false)
+    → PlainRun 42 (c .before .before .before .before .before .before .before .before .args .src .now) (c .before .before .before .before .before .loop .body .end) 16
 found c = block-true _ _ _ (sym (c .before .is-block .ensures) ∙ c .if3 .taken)
 
 add-body : tie.Need-add-body Inv-loop μ-loop
-add-body c = omega (arith, found c .0)
+add-body c = omega (arith, found c .fits)
 
 add-body-2 : tie.Need-add-body-2 Inv-loop μ-loop
-add-body-2 c = let i = c .before .before .before .before .before .before .loop .inv .counted in omega (arith, found (c .before) .0)
+add-body-2 c = let i = c .before .before .before .before .before .before .loop .inv .counted in omega (arith, found (c .before) .fits)
 
 loop-less : tie.Need-loop-less Inv-loop μ-loop
-loop-less c = omega (arith, found (c .before) .0)
+loop-less c = omega (arith, found (c .before) .fits)
 
 loop-again : tie.Need-loop-again Inv-loop μ-loop
 loop-again c =
@@ -53,7 +52,7 @@ loop-again c =
     let a = l .before .before .before .args in
     let s = a .src .now in
     reading-plain _ (toStarSlash (l .loop .star)) 42 s (slash-on (l .loop .star) (not-true _ (and-split _ _ (c .before .before .before .if2 .taken) .0)) s)
-    16 (l .loop .body) (found (c .before) .0) (found (c .before) .1) (l .loop .inv)
+    16 (l .loop .body) (found (c .before)) (l .loop .inv)
 
 add-tried : tie.Need-add-tried Inv-loop μ-loop
 add-tried c = omega arith
