@@ -1,8 +1,8 @@
 -- `blanks::tabs` meets its contract.
-use native.Mathlib.Omega.{arith}
+use native.Mathlib.Nat.{lt-of-le-of-lt}
 use borrow.Author.Needs.{needs}
-use lib.Bits.{bitXor}
 use lib.Count.{trailing-le}
+use lib.Dec.{lit<}
 use Rattle.blanks.proofs.TabRun.{tabs-are}
 use Rattle.blanks.proofs.tabs.Statement.{statement}
 use Rattle.blanks.proofs.tabs.Tie as tie
@@ -11,7 +11,7 @@ eight-requires : tie.Need-eight-requires
 eight-requires c κs = search needs
 
 cast-result : tie.Need-cast-result
-cast-result c = omega (arith, trailing-le 64 (bitXor (c .eight .result) 0x0909_0909_0909_0909))
+cast-result c = record { fits = lt-of-le-of-lt (trailing-le 64 _) (lit< tt) }
 
 returns : tie.Need-returns
 returns c =
