@@ -1,107 +1,60 @@
--- `blanks::skip_blanks` meets its contract. The loop's invariant: what was skipped and what is still skipped make the whole.
-use Prim.Native.Nat.{_+_, _-_, _≤_}
-use mathlib.Core.Path.{_≡_, sym, ap, _∙_}
+-- `blanks::skip_blanks` meets its contract: a space, if there is one, and the blanks after it.
+use mathlib.Core.Path.{_≡_, sym, _∙_}
+use mathlib.Core.Logic.{⊎-elim}
 use native.Mathlib.Omega.{arith}
 use borrow.Author.Needs.{needs}
-use borrow.Author.Tests.{not-true, not-false}
-use lib.ListN.{length, getD, drop}
-use Rattle.utf8.specs.Chars.{chars}
-use Rattle.blanks.specs.Blank.{skip, skippedAt}
-use Rattle.blanks.proofs.Blanks.{joined, joined-start, joined-stop, joined-space, joined-feed, skip-end, skip-space, skip-feed, skip-marked, skip-other}
+use lib.ListN.{getD}
+use Rattle.basics.proofs.Lists.{reach}
+use Rattle.blanks.specs.Blank.{skippedAt}
+use Rattle.blanks.proofs.Blanks.{joined, from, joined-start, joined-none, joined-some, space-blank, step-none, step-space, stop-test}
 use Rattle.blanks.proofs.skip_blanks.Statement.{statement}
 use Rattle.blanks.proofs.skip_blanks.Tie as tie
 
-abbrev Inv-loop : tie.InvT-loop
-Inv-loop src at mark p₀ lfs₀ line₀ p lfs line =
-    (lfs ≤ p) × (skippedAt at (skip mark (chars (drop at src))) ≡ joined p lfs line (skip mark (chars (drop p src))))
+byte-requires : tie.Need-byte-requires
+byte-requires c κs = search needs
 
-abbrev μ-loop : tie.MeasureT-loop
-μ-loop src at mark p₀ lfs₀ line₀ p lfs line = length src - p
+add-p : tie.Need-add-p
+add-p c =
+    let a = c .before .before .before .args in
+    omega (arith, reach (a .src .now) (a .at) (omega (arith, c .before .byte .ensures)))
 
-loop-holds : tie.Need-loop-holds Inv-loop μ-loop
-loop-holds c = (omega arith, joined-start (c .before .args .at) (skip (c .before .args .mark) (chars (drop (c .before .args .at) (c .before .args .src .now)))))
+byte-requires-2 : tie.Need-byte-requires-2
+byte-requires-2 c κs = search needs
 
-shared-slice-read-b : tie.Need-shared-slice-read-b Inv-loop μ-loop
-shared-slice-read-b c = search needs
+-- at most a space stands before the place p
+after : (c : tie.Joined1)
+    → let a = c .before .before .before .args in
+    skippedAt (a .at) (from (a .mark) (a .src .now) (a .at)) ≡ joined (c .if1 .p) 0 (a .at) (from (a .mark) (a .src .now) (c .if1 .p))
+after c =
+    let a = c .before .before .before .args in
+    let e = c .before .byte .ensures in
+    joined-start (a .at) (from (a .mark) (a .src .now) (a .at))
+    ∙ ⊎-elim
+    (λ w. rw (w .1) (step-space (a .mark) (a .src .now) (a .at) 0 (a .at) (rw (sym e ∙ w .0 .taken) (space-blank (a .mark))) (λ f. omega (arith, e, w .0 .taken))))
+    (λ w. rw (w .1)) (c .if1 .came)
 
-returns : tie.Need-returns Inv-loop μ-loop
+returns : tie.Need-returns
 returns c =
-    let l = c .before .before .before .before in
-    let a = l .before .before .args in
-    let h = c .before .before .before .loop-test .taken in
-    let n = joined (l .loop .p) (l .loop .lfs) (l .loop .line) in
-    sym (l .loop .inv .1 ∙ ap n (skip-marked (a .mark) (a .src .now) (l .loop .p) h (c .before .if1 .taken) (c .if2 .taken)) ∙ joined-stop _ _ _)
+    let a = c .before .before .before .before .before .args in
+    let p = c .before .before .if1 .p in
+    sym (after (c .before .before) ∙ step-none (a .mark) (a .src .now) p 0 (a .at) (stop-test (a .mark) (getD (a .src .now) p 0) (rw (c .before .byte2 .ensures) at (c .if2 .taken))))
 
-add-p : tie.Need-add-p Inv-loop μ-loop
-add-p c = omega arith
+skip-line-requires : tie.Need-skip-line-requires
+skip-line-requires c κs = search needs
 
-add-lfs : tie.Need-add-lfs Inv-loop μ-loop
-add-lfs c = omega arith
-
-loop-less : tie.Need-loop-less Inv-loop μ-loop
-loop-less c = omega arith
-
-loop-again : tie.Need-loop-again Inv-loop μ-loop
-loop-again c =
-    let l = c .before .before .before .before in
-    let a = l .before .before .args in
-    let h = c .before .before .before .loop-test .taken in
-    let n = joined (l .loop .p) (l .loop .lfs) (l .loop .line) in (
-      omega arith,
-      l .loop .inv .1 ∙ ap n (skip-feed (a .mark) (a .src .now) (l .loop .p) h (c .before .if1 .taken) (c .if2 .left)) ∙ joined-feed (l .loop .p) (l .loop .lfs) (l .loop .line) (getD (a .src .now) (l .loop .p) 0) (skip (a .mark) (chars (drop (l .loop .p + 1) (a .src .now)))) (c .before .if1 .taken),
-    )
-
-is-space-requires : tie.Need-is-space-requires Inv-loop μ-loop
-is-space-requires c κs = tt
-
-returns-2 : tie.Need-returns-2 Inv-loop μ-loop
+returns-2 : tie.Need-returns-2
 returns-2 c =
-    let l = c .before .before .before .before .before in
-    let a = l .before .before .args in
-    let h = c .before .before .before .before .loop-test .taken in
-    let n = joined (l .loop .p) (l .loop .lfs) (l .loop .line) in
-    let e = c .before .is-space .ensures in
-    sym (l .loop .inv .1 ∙ ap n (skip-other (a .mark) (a .src .now) (l .loop .p) h (sym e ∙ not-true _ (c .if3 .taken)) (c .before .before .if1 .left)) ∙ joined-stop _ _ _)
+    let d = c .before .before .before .before in
+    let a = d .before .before .before .args in
+    let r = c .before .skip-line in
+    sym (after d ∙ joined-none (d .if1 .p) (a .at) (from (a .mark) (a .src .now) (d .if1 .p)) (r .result) (r .ensures) (c .if3 .taken))
 
-add-p-2 : tie.Need-add-p-2 Inv-loop μ-loop
-add-p-2 c = omega arith
-
-loop-less-2 : tie.Need-loop-less-2 Inv-loop μ-loop
-loop-less-2 c = omega arith
-
-loop-again-2 : tie.Need-loop-again-2 Inv-loop μ-loop
-loop-again-2 c =
-    let l = c .before .before .before .before .before in
-    let a = l .before .before .args in
-    let h = c .before .before .before .before .loop-test .taken in
-    let n = joined (l .loop .p) (l .loop .lfs) (l .loop .line) in
-    let e = c .before .is-space .ensures in (
-      omega arith,
-      l .loop .inv .1 ∙ ap n (skip-space (a .mark) (a .src .now) (l .loop .p) h (sym e ∙ not-false _ (c .if3 .left))) ∙ joined-space (l .loop .p) (l .loop .lfs) (l .loop .line) (getD (a .src .now) (l .loop .p) 0) (skip (a .mark) (chars (drop (l .loop .p + 1) (a .src .now)))) (c .before .before .if1 .left),
-    )
-
-returns-3 : tie.Need-returns-3 Inv-loop μ-loop
+returns-3 : tie.Need-returns-3
 returns-3 c =
-    let l = c .before in
-    let a = l .before .before .args in
-    sym (l .loop .inv .1 ∙ ap (joined (l .loop .p) (l .loop .lfs) (l .loop .line)) (skip-end (a .mark) (a .src .now) (l .loop .p) (c .loop-test .left)) ∙ joined-stop _ _ _)
+    let d = c .before .before .before .before in
+    let a = d .before .before .before .args in
+    let r = c .before .skip-line in
+    sym (after d ∙ joined-some (d .if1 .p) (a .at) (from (a .mark) (a .src .now) (d .if1 .p)) (r .result) (r .ensures) (c .if3 .left))
 
 pub skip-blanks-spec : {M : Type 1} → statement M
-skip-blanks-spec =
-    tie.close
-    (tie.spec
-    Inv-loop
-    μ-loop
-    loop-holds
-    shared-slice-read-b
-    returns
-    add-p
-    add-lfs
-    loop-less
-    loop-again
-    is-space-requires
-    returns-2
-    add-p-2
-    loop-less-2
-    loop-again-2
-    returns-3)
+skip-blanks-spec = tie.close (tie.spec byte-requires add-p byte-requires-2 returns skip-line-requires returns-2 returns-3)
