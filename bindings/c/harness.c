@@ -584,8 +584,9 @@ int main(int argc, char **argv)
     lengths();
     for (round_number = 1; round_number <= rounds; round_number++)
         one_round();
-    printf("%lu rounds, %lu calls, %lu accepted, %lu of them scans, %lu many scans", rounds, calls, answers[0], scanned, batches);
-    printf("; %lu many scans refused behind some tokens; refused by", cut);
+    printf("%lu rounds, %lu calls, %lu accepted, ", rounds, calls, answers[0]);
+    printf("%lu of them scans, %lu many scans; ", scanned, batches);
+    printf("%lu many scans refused behind some tokens; refused by", cut);
     for (i = 1; i < ANSWERS; i++)
         printf("%s %d: %lu", i == 1 ? "" : ",", i, answers[i]);
     printf("; %lu checks failed\n", failed);
