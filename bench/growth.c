@@ -103,7 +103,8 @@ int main(void)
 {
     size_t i;
     int failed = 0;
-    printf("Nanoseconds a byte of opening and scanning to EOF, through the C functions, the best of up to %d passes:\n\n",
+    printf("Nanoseconds a byte of opening and scanning to EOF, through the C functions in batches of up to 256 tokens, "
+           "the best of up to %d passes:\n\n",
            ROUNDS);
     printf("| source | 64 KB | 128 KB | 256 KB | 512 KB | 1 MB | time at each doubling | in proportion |\n");
     printf("|---|---|---|---|---|---|---|---|\n");

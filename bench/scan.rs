@@ -1,6 +1,6 @@
-//! Times opening a source and scanning it to EOF: ours through the C functions, ours through the Rust crate, the original
-//! and, where its program is given, go/scanner. In each round each of them makes a few passes over each source, in turn;
-//! the quickest pass counts.
+//! Times opening a source and scanning it to EOF: ours through the C functions, in batches and one token at a time, ours
+//! through the Rust crate, in batches, the original and, where its program is given, go/scanner. In each round each of them
+//! makes a few passes over each source, in turn; the quickest pass counts.
 //!
 //! scan [--go PROGRAM] NAME=FILE..
 //! scan --plain FILE..    prints the names of the files that have no ILLEGAL token, as one with a letter above 127 has
@@ -23,11 +23,14 @@ const PASSES: usize = 5;
 
 /// The number of tokens of a source, EOF among them.
 type Pass = fn(&str) -> usize;
+/// The same in C; the sum is over positions and texts.
+type CPass = unsafe extern "C" fn(*const u8, usize, *mut usize) -> usize;
 type Outcome<T> = Result<T, Box<dyn Error>>;
 
 extern "C" {
     /// bench/pass.c.
     fn pass(src: *const u8, len: usize, sum: *mut usize) -> usize;
+    fn pass_by_one(src: *const u8, len: usize, sum: *mut usize) -> usize;
     fn thread_time() -> f64;
 }
 
@@ -37,7 +40,7 @@ fn now() -> f64 {
     unsafe { thread_time() }
 }
 
-fn through_c(source: &str) -> usize {
+fn call(pass: CPass, source: &str) -> usize {
     let mut sum = 0;
     // SAFETY: pointer and length are those of a slice, and the sum is a number of our own.
     let tokens = unsafe { pass(source.as_ptr(), source.len(), &mut sum) };
@@ -45,19 +48,28 @@ fn through_c(source: &str) -> usize {
     tokens
 }
 
+fn through_c(source: &str) -> usize {
+    call(pass, source)
+}
+
+fn through_c_by_one(source: &str) -> usize {
+    call(pass_by_one, source)
+}
+
 fn through_crate(source: &str) -> usize {
     use cifgwezam::{Kind, Scanner};
     let mut scanner = Scanner::new(source.as_bytes()).expect("a source that can be opened");
     let (mut tokens, mut sum) = (0, 0);
-    loop {
-        let (token, pos) = scanner.scan().expect("a token");
-        tokens += 1;
-        sum += pos + token.text.len();
-        if token.kind == Kind::Eof {
-            black_box(sum);
-            return tokens;
+    let mut last = Kind::None;
+    while last != Kind::Eof {
+        for token in scanner.batch().expect("a batch") {
+            tokens += 1;
+            sum += token.pos() + token.text().expect("a text").len();
+            last = token.kind().expect("a kind");
         }
     }
+    black_box(sum);
+    tokens
 }
 
 /// Whether the source has no ILLEGAL token.
@@ -131,9 +143,14 @@ impl Go {
     }
 }
 
-/// The scanners of this program, and the name of the one that is not of it.
-const SCANNERS: [(&str, Pass); 3] =
-    [("ours, C functions", through_c), ("ours, Rust crate", through_crate), ("original", by_original)];
+/// The scanners of this program, and the name of the one that is not of it. Those behind ours are held to the first.
+const SCANNERS: [(&str, Pass); 4] = [
+    ("ours in C (batches)", through_c),
+    ("ours in C (one at a time)", through_c_by_one),
+    ("ours in Rust (batches)", through_crate),
+    ("original", by_original),
+];
+const OURS: usize = 3;
 const GO: &str = "go/scanner";
 
 /// A source, its tokens, and for each scanner the nanoseconds of the quickest pass.
@@ -189,7 +206,7 @@ fn print_row(name: &str, bytes: usize, tokens: usize, best: &[f64]) {
     for least in best {
         print!(" {:.1} ns, {:.0} MB/s |", least / tokens as f64, bytes as f64 * 1e3 / least);
     }
-    for least in &best[1..] {
+    for least in &best[OURS..] {
         print!(" {:.2} |", least / best[0]);
     }
     println!();
@@ -198,13 +215,13 @@ fn print_row(name: &str, bytes: usize, tokens: usize, best: &[f64]) {
 fn print_table(texts: &[Text]) {
     let count = texts[0].best.len();
     let names: Vec<&str> = SCANNERS.iter().map(|(name, _)| *name).chain([GO]).take(count).collect();
-    let ratios: Vec<String> = names[1..].iter().map(|name| format!("{name} : C functions")).collect();
+    let ratios: Vec<String> = names[OURS..].iter().map(|name| format!("{name} : ours")).collect();
     println!(
         "Nanoseconds a token and millions of bytes a second, opening and scanning to EOF, time of the scanning thread, the quickest of {} passes:\n",
         ROUNDS * PASSES
     );
     println!("| source | bytes | tokens | {} | {} |", names.join(" | "), ratios.join(" | "));
-    println!("|{}", "---|".repeat(2 * count + 2));
+    println!("|{}", "---|".repeat(3 + names.len() + ratios.len()));
     for text in texts {
         print_row(&text.name, text.source.len(), text.tokens, &text.best);
     }

@@ -1,6 +1,7 @@
 /*
  * Calls the functions of scanner.h with forged states, short buffers and random bytes, and checks each call: a
  * refused one changed nothing, an accepted one only what it may change, and none wrote outside the lent lengths.
+ * Many scans in one call leave what as many scans of one token leave on copies.
  *
  * harness ROUNDS [exact]
  *
@@ -16,7 +17,7 @@
 enum { GUARD = 64, GUARD_BYTE = 0xd5, LIMIT = 64, ANSWERS = 10 };
 
 static size_t guard = GUARD;
-static unsigned long round_number, calls, scanned, failed;
+static unsigned long round_number, calls, scanned, batches, cut, failed;
 static unsigned long answers[ANSWERS];
 
 static void check(int holds, const char *what)
@@ -132,14 +133,20 @@ static size_t least(size_t a, size_t b)
     return a < b ? a : b;
 }
 
-/* The elements from `first` to the one before `end` alone may have changed, and nothing around the buffer. */
-static void check_within(const struct lent *b, size_t first, size_t end, const char *what)
+/* Nothing around the buffer has changed. */
+static void check_guards(const struct lent *b)
 {
     static uint8_t guards[GUARD];
-    size_t len = len_of(b), from = least(first, len) * b->width, to = least(end, len) * b->width;
     memset(guards, GUARD_BYTE, GUARD);
     check(same(b->block, guards, guard), "a byte before a buffer was written");
     check(same(bytes_of(b) + b->bytes, guards, guard), "a byte behind a buffer was written");
+}
+
+/* The elements from `first` to the one before `end` alone may have changed, and nothing around the buffer. */
+static void check_within(const struct lent *b, size_t first, size_t end, const char *what)
+{
+    size_t len = len_of(b), from = least(first, len) * b->width, to = least(end, len) * b->width;
+    check_guards(b);
     check(same(bytes_of(b), b->before, from), what);
     check(same(bytes_of(b) + to, b->before + to, b->bytes - to), what);
 }
@@ -151,16 +158,16 @@ static void check_kept(const struct lent *b, const char *what)
 
 /* All that a call is lent. */
 struct world {
-    struct lent src, state, table, list, area, token, answer;
+    struct lent src, state, table, list, area, token, tokens, answer;
 };
 
 static struct lent *buffer(struct world *w, int i)
 {
-    struct lent *all[] = {&w->src, &w->state, &w->table, &w->list, &w->area, &w->token, &w->answer};
+    struct lent *all[] = {&w->src, &w->state, &w->table, &w->list, &w->area, &w->token, &w->tokens, &w->answer};
     return all[i];
 }
 
-enum { BUFFERS = 7 };
+enum { BUFFERS = 8 };
 
 static void keep_all(struct world *w)
 {
@@ -222,6 +229,7 @@ static uint8_t call_open(struct world *w, size_t base, size_t size)
     check_kept(&w->list, "opening wrote to the list");
     check_kept(&w->area, "opening wrote to the area");
     check_kept(&w->token, "opening wrote to the token");
+    check_kept(&w->tokens, "opening wrote to the tokens");
     check(numbers_of(&w->answer)[0] <= len_of(&w->src), "more characters than bytes");
     return answer;
 }
@@ -254,6 +262,7 @@ static void check_scanned(struct world *w)
     check_within(&w->list, old[SCANNER_STATE_ERRORS] * SCANNER_ERROR_LEN, state[SCANNER_STATE_ERRORS] * SCANNER_ERROR_LEN,
                  "an older error was written");
     check_within(&w->area, 0, end, "the area was written behind text and value");
+    check_kept(&w->tokens, "a scan wrote to the tokens");
     check_kept(&w->answer, "a scan wrote to the answer");
 }
 
@@ -272,6 +281,78 @@ static uint8_t call_scan(struct world *w)
         check_scanned(w);
     else
         check_refused(w, 0);
+    return answer;
+}
+
+/* The same numbers and bytes in buffers of their own. */
+static struct world copy_of(struct world *w)
+{
+    struct world copy;
+    int i;
+    for (i = 0; i < BUFFERS; i++) {
+        struct lent *b = buffer(w, i);
+        *buffer(&copy, i) = make(len_of(b), b->width);
+        memcpy(bytes_of(buffer(&copy, i)), bytes_of(b), b->bytes);
+    }
+    return copy;
+}
+
+/* Whether many scans stop behind a token: it shows something from the area, or is EOF. */
+static int is_last(const size_t *token)
+{
+    return token[SCANNER_TOKEN_TEXT_IN_AREA] != 0 || token[SCANNER_TOKEN_VALUE_IN_AREA] != 0
+           || token[SCANNER_TOKEN_KIND] == SCANNER_KIND_EOF;
+}
+
+/* Makes many scans one by one, each token in its place among `tokens`; how many were given. */
+static uint8_t scan_each(struct world *w, size_t *given)
+{
+    size_t room = len_of(&w->tokens) / SCANNER_TOKEN_LEN, *token = numbers_of(&w->tokens);
+    uint8_t answer = SCANNER_OK;
+    for (*given = 0; *given < room; token += SCANNER_TOKEN_LEN) {
+        answer = scanner_scan(bytes_of(&w->src), len_of(&w->src), numbers_of(&w->state), len_of(&w->state),
+                              numbers_of(&w->table), len_of(&w->table), numbers_of(&w->list), len_of(&w->list),
+                              bytes_of(&w->area), len_of(&w->area), token, SCANNER_TOKEN_LEN);
+        *given += answer == SCANNER_OK;
+        if (answer != SCANNER_OK || is_last(token))
+            break;
+    }
+    return answer;
+}
+
+/* Many scans in one call left what they leave one by one in a copy. */
+static void check_many(struct world *w, struct world *copy, uint8_t answer)
+{
+    size_t given;
+    int i;
+    check(scan_each(copy, &given) == answer, "another answer than one by one");
+    numbers_of(&copy->answer)[0] = given;
+    for (i = 0; i < BUFFERS; i++) {
+        const struct lent *b = buffer(w, i);
+        check_guards(b);
+        check(same(bytes_of(b), bytes_of(buffer(copy, i)), b->bytes), "another buffer than one by one");
+    }
+    cut += given > 0 && answer != SCANNER_OK;
+}
+
+static uint8_t call_many(struct world *w)
+{
+    struct world copy = copy_of(w);
+    uint8_t answer;
+    keep_all(w);
+    answer = scanner_scan_many(bytes_of(&w->src), len_of(&w->src), numbers_of(&w->state), len_of(&w->state),
+                               numbers_of(&w->table), len_of(&w->table), numbers_of(&w->list), len_of(&w->list),
+                               bytes_of(&w->area), len_of(&w->area), numbers_of(&w->tokens), len_of(&w->tokens),
+                               numbers_of(&w->answer), len_of(&w->answer));
+    note(answer, "036789");
+    batches += answer == SCANNER_OK;
+    if (len_of(&w->state) < SCANNER_STATE_LEN || len_of(&w->answer) < 1) {
+        check(answer == SCANNER_DOES_NOT_FIT, "6 for a short slice");
+        check_refused(w, 0);
+    } else {
+        check_many(w, &copy, answer);
+    }
+    drop_all(&copy);
     return answer;
 }
 
@@ -344,6 +425,7 @@ static struct world new_world(void)
     w.list = make(length(4 * LIMIT, 12), sizeof(size_t));
     w.area = make(length(2 * LIMIT, 16), 1);
     w.token = make(length(SCANNER_TOKEN_LEN, 12), sizeof(size_t));
+    w.tokens = make(below(8 * SCANNER_TOKEN_LEN), sizeof(size_t));
     w.answer = make(length(SCANNER_ERROR_LEN, 6), sizeof(size_t));
     for (i = 1; i < BUFFERS; i++)
         fill(buffer(&w, i));
@@ -376,6 +458,15 @@ static void ask(struct world *w)
     call_error(w, edge(below(4)));
 }
 
+/* One token, or many. */
+static void scan_some(struct world *w)
+{
+    if (below(3) == 0)
+        call_many(w);
+    else
+        call_scan(w);
+}
+
 /* An opening, a few scans, then forged numbers between scans and questions. */
 static void one_round(void)
 {
@@ -386,17 +477,17 @@ static void one_round(void)
     if (answer != SCANNER_OK)
         call_open(&w, 0, len_of(&w.src));
     for (i = 0; i < scans; i++)
-        call_scan(&w);
+        scan_some(&w);
     ask(&w);
     for (i = 0; i < 3; i++) {
         forge(&w);
-        call_scan(&w);
+        scan_some(&w);
         ask(&w);
     }
     drop_all(&w);
 }
 
-/* Every length of state, token and answer from 0 to 12, on a text that is scanned if they suffice. */
+/* Every length of state, token, tokens and answer from 0 to 12, on a text that is scanned if they suffice. */
 static void all_lengths(size_t state, size_t token)
 {
     static const size_t fresh[] = {0, 5, 0, 0, 0, 1, 0};
@@ -408,6 +499,7 @@ static void all_lengths(size_t state, size_t token)
     w.list = make(4, sizeof(size_t));
     w.area = make(8, 1);
     w.token = make(token, sizeof(size_t));
+    w.tokens = make(token, sizeof(size_t));
     w.answer = make(token, sizeof(size_t));
     memcpy(bytes_of(&w.src), "017 x", 5);
     check(call_open(&w, 0, 5) == (state < SCANNER_STATE_LEN || token < 1 ? SCANNER_DOES_NOT_FIT : SCANNER_OK),
@@ -420,31 +512,37 @@ static void all_lengths(size_t state, size_t token)
     call_error(&w, 0);
     check(call_scan(&w) == (state < SCANNER_STATE_LEN || token < SCANNER_TOKEN_LEN ? SCANNER_DOES_NOT_FIT : SCANNER_OK),
           "a length at a scan");
+    check(call_many(&w) == (state < SCANNER_STATE_LEN || token < 1 ? SCANNER_DOES_NOT_FIT : SCANNER_OK),
+          "a length at many scans");
     drop_all(&w);
 }
 
-/* Every small table, list and area on a text that needs two line starts, an error and an area. */
+/* Every small table, list and area on a text whose second token needs two line starts, an error and an area. */
 static void small_buffers(size_t table, size_t list, size_t area)
 {
     struct world w;
-    uint8_t answer;
-    w.src = make(5, 1);
+    uint8_t expected = table < 2  ? SCANNER_TABLE_FULL
+                       : list < 4 ? SCANNER_LIST_FULL
+                       : area < 2 ? SCANNER_AREA_FULL
+                                  : SCANNER_OK;
+    w.src = make(6, 1);
     w.state = make(SCANNER_STATE_LEN, sizeof(size_t));
     w.table = make(table, sizeof(size_t));
     w.list = make(list, sizeof(size_t));
     w.area = make(area, 1);
     w.token = make(SCANNER_TOKEN_LEN, sizeof(size_t));
+    w.tokens = make(3 * SCANNER_TOKEN_LEN, sizeof(size_t));
     w.answer = make(1, sizeof(size_t));
-    memcpy(bytes_of(&w.src), "\n08 x", 5);
-    answer = call_open(&w, 0, 5);
-    check(answer == (table < 1 ? SCANNER_TABLE_FULL : SCANNER_OK), "a table at opening");
-    if (answer == SCANNER_OK) {
-        answer = call_scan(&w);
-        check(answer == (table < 2 ? SCANNER_TABLE_FULL
-                         : list < 4 ? SCANNER_LIST_FULL
-                         : area < 2 ? SCANNER_AREA_FULL
-                                    : SCANNER_OK),
-              "the first buffer that is too small");
+    memcpy(bytes_of(&w.src), "+\n08 x", 6);
+    if (table < 1) {
+        check(call_open(&w, 0, 6) == SCANNER_TABLE_FULL, "no table at opening");
+    } else {
+        check(call_open(&w, 0, 6) == SCANNER_OK, "a table at opening");
+        check(call_many(&w) == expected, "the first buffer that is too small for many scans");
+        check(numbers_of(&w.answer)[0] == (expected == SCANNER_OK ? 2 : 1), "a token before it, or one more");
+        call_open(&w, 0, 6);
+        check(call_scan(&w) == SCANNER_OK, "a token that needs nothing");
+        check(call_scan(&w) == expected, "the first buffer that is too small");
     }
     drop_all(&w);
 }
@@ -486,7 +584,9 @@ int main(int argc, char **argv)
     lengths();
     for (round_number = 1; round_number <= rounds; round_number++)
         one_round();
-    printf("%lu rounds, %lu calls, %lu accepted, %lu of them scans; refused by", rounds, calls, answers[0], scanned);
+    printf("%lu rounds, %lu calls, %lu accepted, ", rounds, calls, answers[0]);
+    printf("%lu of them scans, %lu many scans; ", scanned, batches);
+    printf("%lu many scans refused behind some tokens; refused by", cut);
     for (i = 1; i < ANSWERS; i++)
         printf("%s %d: %lu", i == 1 ? "" : ",", i, answers[i]);
     printf("; %lu checks failed\n", failed);

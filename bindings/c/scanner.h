@@ -2,12 +2,14 @@
  * The recipe scanner for programs in C: Go text to tokens.
  *
  * Open a source once with scanner_open, then call scanner_scan for one token
- * after the other, up to SCANNER_KIND_EOF. Between calls the scanner keeps
- * nothing: state, line table, error list and text area are the caller's.
+ * after the other, or scanner_scan_many for many at a time, up to
+ * SCANNER_KIND_EOF. Between calls the scanner keeps nothing: state, line table,
+ * error list and text area are the caller's.
  *
  * Each function answers 0, or the number of a refusal; a refused call changes
- * nothing that it was lent, but for the place that refusal 1 carries. After 7, 8
- * or 9 call again with a larger copy of the table, the list or the area.
+ * nothing that it was lent, but for the place that refusal 1 carries and the
+ * tokens that scanner_scan_many gives before it is refused. After 7, 8 or 9
+ * call again with a larger copy of the table, the list or the area.
  *
  * Lengths count elements. No pointer may be NULL, not even where its length is
  * 0, and no two buffers of a call may overlap.
@@ -204,6 +206,41 @@ uint8_t scanner_open(const uint8_t *src, size_t src_len, size_t base, size_t siz
 uint8_t scanner_scan(const uint8_t *src, size_t src_len, size_t *state, size_t state_len,
                      size_t *table, size_t table_len, size_t *list, size_t list_len,
                      uint8_t *area, size_t area_len, size_t *token, size_t token_len);
+
+/*
+ * Scans token after token, as many as `tokens` has room for at
+ * SCANNER_TOKEN_LEN numbers each, and so saves calls. The number of tokens
+ * given goes to `answer` (1 number); state and buffers are those that so many
+ * calls of scanner_scan leave.
+ *
+ * It stops behind EOF, and behind a token whose text or value stands in the
+ * area, since the next scan would write over it. It also stops at a scan that
+ * is refused, and answers that refusal: the tokens before it are given, and the
+ * state is the one behind them. So take the tokens first, and then see to the
+ * refusal:
+ *
+ *     size_t tokens[256 * SCANNER_TOKEN_LEN], count, i, kind = SCANNER_KIND_NONE;
+ *     while (kind != SCANNER_KIND_EOF) {
+ *         uint8_t refusal = scanner_scan_many(src, len, state, SCANNER_STATE_LEN, table, table_len,
+ *                                             list, list_len, area, area_len,
+ *                                             tokens, 256 * SCANNER_TOKEN_LEN, &count, 1);
+ *         for (i = 0; i < count; i++) {
+ *             const size_t *token = tokens + i * SCANNER_TOKEN_LEN;
+ *             struct scanner_bytes text = scanner_text(token, src, area);
+ *             kind = token[SCANNER_TOKEN_KIND];
+ *             ...
+ *         }
+ *         if (refusal != SCANNER_OK)
+ *             ... (7, 8, 9: enlarge the table, the list or the area; else give up)
+ *     }
+ *
+ * Where `tokens` has not room for one, none is given and nothing refused. A
+ * short state or no room for the answer is refused by 6, and nothing written.
+ */
+uint8_t scanner_scan_many(const uint8_t *src, size_t src_len, size_t *state, size_t state_len,
+                          size_t *table, size_t table_len, size_t *list, size_t list_len,
+                          uint8_t *area, size_t area_len, size_t *tokens, size_t tokens_len,
+                          size_t *answer, size_t answer_len);
 
 /* Offset, line and column of a position. Lines are known as far as the source was read. */
 uint8_t scanner_position(const size_t *state, size_t state_len, const size_t *table, size_t table_len,

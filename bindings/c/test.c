@@ -1,4 +1,4 @@
-/* The test of scanner.h: listings, refusals, buffers that grow. */
+/* The test of scanner.h: listings, refusals, buffers that grow, many scans in one call. */
 #include "scanner.h"
 
 #include <stdarg.h>
@@ -18,6 +18,13 @@ static void check(int holds, const char *what)
     printf("failed: %s\n", what);
 }
 
+/* A part of a check: counted only where it fails. */
+static void part(int holds, const char *what)
+{
+    if (!holds)
+        check(0, what);
+}
+
 /* A scanner with its buffers. */
 struct run {
     const uint8_t *src;
@@ -28,6 +35,7 @@ struct run {
     uint8_t area[256];
     size_t table_len, list_len, area_len;
     size_t answer[SCANNER_ERROR_LEN];
+    size_t tokens[256 * SCANNER_TOKEN_LEN];
 };
 
 static void prepare(struct run *r, const char *src, size_t len)
@@ -58,6 +66,13 @@ static uint8_t scan(struct run *r)
 {
     return scanner_scan(r->src, r->src_len, r->state, SCANNER_STATE_LEN, r->table, r->table_len,
                         r->list, r->list_len, r->area, r->area_len, r->token, SCANNER_TOKEN_LEN);
+}
+
+/* Scans many, with room for so many numbers of tokens. */
+static uint8_t scan_many(struct run *r, size_t room)
+{
+    return scanner_scan_many(r->src, r->src_len, r->state, SCANNER_STATE_LEN, r->table, r->table_len,
+                             r->list, r->list_len, r->area, r->area_len, r->tokens, room, r->answer, 1);
 }
 
 static uint8_t locate(struct run *r, size_t position)
@@ -317,6 +332,145 @@ static void test_growth(void)
     free(area);
 }
 
+/* Whether many scans stop behind a token: it shows something from the area, or is EOF. */
+static int is_last(const size_t *token)
+{
+    return token[SCANNER_TOKEN_TEXT_IN_AREA] == 1 || token[SCANNER_TOKEN_VALUE_IN_AREA] == 1
+           || token[SCANNER_TOKEN_KIND] == SCANNER_KIND_EOF;
+}
+
+/* Scans many, and in a copy as many one at a time: the same tokens, refusal, state and buffers. */
+static uint8_t scan_beside(struct run *r, size_t room)
+{
+    struct run one = *r;
+    uint8_t refusal = scan_many(r, room);
+    size_t count = r->answer[0], i;
+    part(count <= room / SCANNER_TOKEN_LEN, "no more tokens than there is room for");
+    for (i = 0; i < count && i < room / SCANNER_TOKEN_LEN; i++) {
+        part(scan(&one) == SCANNER_OK, "a token that one scan gives, too");
+        part(i + 1 == count || !is_last(one.token), "no token behind one that is the last");
+        memcpy(one.tokens + i * SCANNER_TOKEN_LEN, one.token, sizeof one.token);
+    }
+    if (refusal != SCANNER_OK)
+        part(scan(&one) == refusal, "the refusal of the next scan");
+    else
+        part(count == room / SCANNER_TOKEN_LEN || is_last(one.token), "a stop where there is room");
+    memcpy(one.token, r->token, sizeof one.token);
+    one.answer[0] = count;
+    part(memcmp(&one, r, sizeof one) == 0, "what many scans leave is what as many scans leave");
+    return refusal;
+}
+
+/* Reads a text to EOF in batches; the number of tokens. */
+static size_t read_beside(const char *text, size_t more, size_t room)
+{
+    struct run r;
+    size_t tokens = 0, kind = SCANNER_KIND_NONE;
+    prepare(&r, text, strlen(text));
+    open_at(&r, 0, r.src_len + more);
+    while (kind != SCANNER_KIND_EOF) {
+        part(scan_beside(&r, room) == SCANNER_OK && r.answer[0] > 0, "a batch");
+        if (r.answer[0] == 0)
+            break;
+        tokens += r.answer[0];
+        kind = r.tokens[(r.answer[0] - 1) * SCANNER_TOKEN_LEN + SCANNER_TOKEN_KIND];
+    }
+    part(scan_beside(&r, room) == SCANNER_OK && r.answer[0] == 1, "EOF alone behind EOF");
+    return tokens;
+}
+
+/* The same tokens as one at a time, in rooms for 1, 1, 2 and 256 of them. */
+static void test_batches(void)
+{
+    static const size_t rooms[] = {10, 11, 25, 2560};
+    char text[600 + 16];
+    struct run r;
+    size_t i, j;
+    for (i = 0; i < 600; i++)
+        text[i] = "x+"[i % 2];
+    strcpy(text + 600, "017 \"\\n\" + y");
+    for (i = 0; i < sizeof rooms / sizeof *rooms; i++) {
+        for (j = 0; j < sizeof rows / sizeof *rows; j++)
+            check(read_beside(rows[j].text, rows[j].more, rooms[i]) > 0, "a row in batches");
+        check(read_beside(text, 0, rooms[i]) == 606, "a text of more than two batches");
+    }
+    for (i = 0; i < SCANNER_TOKEN_LEN; i++) {
+        start(&r, "x");
+        check(scan_beside(&r, i) == SCANNER_OK && r.answer[0] == 0, "none without room for one");
+    }
+}
+
+static void test_stops(void)
+{
+    struct run r;
+    start(&r, "a \"b\" \"b\\n\" c");
+    check(scan_beside(&r, 2560) == SCANNER_OK && r.answer[0] == 3, "a stop behind an escape");
+    check(same(scanner_value(r.tokens + SCANNER_TOKEN_LEN, r.src, r.area), "b"), "a value in the source");
+    check(same(scanner_value(r.tokens + 2 * SCANNER_TOKEN_LEN, r.src, r.area), "b\n"), "a value in the area");
+    check(scan_beside(&r, 2560) == SCANNER_OK && r.answer[0] == 3, "c, a semicolon and EOF");
+    check(scan_beside(&r, 2560) == SCANNER_OK && r.answer[0] == 1, "EOF again");
+    start(&r, "017 018");
+    check(scan_beside(&r, 2560) == SCANNER_OK && r.answer[0] == 1, "a stop behind a changed text");
+    check(same(scanner_text(r.tokens, r.src, r.area), "0o17"), "its text");
+    check(scan(&r) == SCANNER_OK && same(scanner_text(r.token, r.src, r.area), "0o1"), "one scan goes on behind many");
+    check(scan_beside(&r, 2560) == SCANNER_OK && r.answer[0] == 3, "many go on behind one scan");
+}
+
+/* Many scans that are refused behind some tokens, and again with nothing changed. */
+static void refuse_many(struct run *r, size_t count, uint8_t number, const char *what)
+{
+    struct run before;
+    check(scan_beside(r, 2560) == number && r->answer[0] == count, what);
+    before = *r;
+    before.answer[0] = 0;
+    check(scan_many(r, 2560) == number, "refused again");
+    check(memcmp(&before, r, sizeof before) == 0, "no token and the same state");
+}
+
+static void test_many_full(void)
+{
+    struct run r;
+    start(&r, "x +\n\ny");
+    r.table_len = 2;
+    refuse_many(&r, 2, SCANNER_TABLE_FULL, "7 behind two tokens");
+    r.table_len = 3;
+    check(scan_beside(&r, 2560) == SCANNER_OK && r.answer[0] == 3, "on with a larger table");
+    check(r.state[SCANNER_STATE_LINES] == 3, "three lines");
+    start(&r, "x '' y ''");
+    r.list_len = 7;
+    refuse_many(&r, 3, SCANNER_LIST_FULL, "8 behind three tokens");
+    r.list_len = 8;
+    check(scan_beside(&r, 2560) == SCANNER_OK && r.answer[0] == 3, "on with a larger list");
+    check(r.state[SCANNER_STATE_ERRORS] == 2, "two errors");
+    start(&r, "x + 017 y");
+    r.area_len = 3;
+    refuse_many(&r, 2, SCANNER_AREA_FULL, "9 behind two tokens");
+    r.area_len = 4;
+    check(scan_beside(&r, 2560) == SCANNER_OK && r.answer[0] == 1, "on with a larger area");
+    check(same(scanner_text(r.tokens, r.src, r.area), "0o17"), "the text that had no room");
+    check(scan_beside(&r, 2560) == SCANNER_OK && r.answer[0] == 3, "and behind it");
+}
+
+static void test_many_states(void)
+{
+    struct run r, before;
+    start(&r, "x y");
+    before = r;
+    check(scanner_scan_many(r.src, r.src_len, r.state, SCANNER_STATE_LEN - 1, r.table, 64, r.list, 64, r.area, 256,
+                            r.tokens, 2560, r.answer, 1) == SCANNER_DOES_NOT_FIT, "6, a short state");
+    check(scanner_scan_many(r.src, r.src_len, r.state, SCANNER_STATE_LEN, r.table, 64, r.list, 64, r.area, 256,
+                            r.tokens, 2560, r.answer, 0) == SCANNER_DOES_NOT_FIT, "6, no answer");
+    check(memcmp(&before, &r, sizeof before) == 0, "short slices: nothing is written");
+    r.state[SCANNER_STATE_PLACE] = 4;
+    refuse_many(&r, 0, SCANNER_DOES_NOT_FIT, "6, a forged place");
+    check(scan_beside(&r, 9) == SCANNER_OK && r.answer[0] == 0, "no room: nothing refused");
+    r.state[SCANNER_STATE_PLACE] = 0;
+    r.state[SCANNER_STATE_ERRORS] = 17;
+    refuse_many(&r, 0, SCANNER_DOES_NOT_FIT, "6, a forged error count");
+    r.state[SCANNER_STATE_ERRORS] = 0;
+    check(scan_beside(&r, 2560) == SCANNER_OK && r.answer[0] == 4, "mended, and read at once");
+}
+
 int main(void)
 {
     check(SCANNER_KINDS == 82 && SCANNER_KIND_VAR == 81 && SCANNER_KIND_SEMICOLON == 55, "82 kinds");
@@ -329,6 +483,10 @@ int main(void)
     test_full();
     test_area();
     test_growth();
+    test_batches();
+    test_stops();
+    test_many_full();
+    test_many_states();
     printf("%d passed, %d failed\n", passed, failed);
     return failed != 0;
 }

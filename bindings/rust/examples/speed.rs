@@ -37,6 +37,21 @@ fn advanced(source: &[u8]) -> Result<Seen, Refusal> {
     }
 }
 
+/// By [`Scanner::batch`].
+fn batched(source: &[u8]) -> Result<Seen, Refusal> {
+    let mut scanner = Scanner::new(source)?;
+    let (mut tokens, mut sum) = (0, 0usize);
+    let mut last = Kind::None;
+    while last != Kind::Eof {
+        for token in scanner.batch()? {
+            tokens += 1;
+            sum = sum.wrapping_add(token.pos() + token.text()?.len());
+            last = token.kind()?;
+        }
+    }
+    Ok((tokens, sum))
+}
+
 /// What a pass over a source saw, and the nanoseconds that the quickest of 300 took for each token.
 fn best(source: &[u8], pass: fn(&[u8]) -> Result<Seen, Refusal>) -> Result<(Seen, f64), Refusal> {
     let mut least = f64::INFINITY;
@@ -53,9 +68,10 @@ fn main() -> Result<(), Box<dyn std::error::Error>> {
     for file in std::env::args().skip(1) {
         let source = std::fs::read(&file)?;
         let (seen, scan) = best(&source, scanned)?;
-        let (other, advance) = best(&source, advanced)?;
-        assert_eq!(seen, other);
-        println!("{file}: {} tokens; scan {scan:.1} ns, advance {advance:.1} ns a token", seen.0);
+        let (second, advance) = best(&source, advanced)?;
+        let (third, batch) = best(&source, batched)?;
+        assert_eq!((seen, seen), (second, third));
+        println!("{file}: {} tokens; scan {scan:.1} ns, advance {advance:.1} ns, batch {batch:.1} ns a token", seen.0);
     }
     Ok(())
 }

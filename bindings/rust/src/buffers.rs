@@ -1,13 +1,15 @@
 //! The buffers that a scanner lends to each call, and how they grow.
 
-use crate::Refusal;
+use crate::{ffi, Refusal};
 
-/// The table of line starts, the list of errors and the text area.
+/// The table of line starts, the list of errors, the text area and the tokens of a batch.
 #[derive(Clone, Debug)]
 pub struct Buffers {
     pub table: Vec<usize>,
     pub list: Vec<usize>,
     pub area: Vec<u8>,
+    /// Empty up to the first batch.
+    pub tokens: Vec<ffi::Token>,
     /// The bytes of the source.
     source: usize,
 }
@@ -18,7 +20,13 @@ const RECORD: usize = 4;
 impl Buffers {
     /// Buffers that do for most sources of so many bytes.
     pub fn new(source: usize) -> Buffers {
-        Buffers { table: vec![0; source / 16 + 1], list: vec![0; 8 * RECORD], area: vec![0; 512], source }
+        Buffers {
+            table: vec![0; source / 16 + 1],
+            list: vec![0; 8 * RECORD],
+            area: vec![0; 512],
+            tokens: Vec::new(),
+            source,
+        }
     }
 
     /// Doubles the buffer that a scan was refused for. Every other refusal stands, and so does this one where the

@@ -1,4 +1,4 @@
-//! The five functions of the library, over slices. The only unsafe code of this crate is here.
+//! The six functions of the library, over slices. The only unsafe code of this crate is here.
 //!
 //! A slice passes as its pointer and its length in elements. Each function answers the number of its refusal,
 //! or 0, reads and writes its slices within their lengths alone, keeps no pointer and ends: so it is proved.
@@ -37,6 +37,23 @@ extern "C" {
         area_len: usize,
         token: *mut usize,
         token_len: usize,
+    ) -> u8;
+
+    fn scanner_scan_many(
+        src: *const u8,
+        src_len: usize,
+        state: *mut usize,
+        state_len: usize,
+        table: *mut usize,
+        table_len: usize,
+        list: *mut usize,
+        list_len: usize,
+        area: *mut u8,
+        area_len: usize,
+        tokens: *mut usize,
+        tokens_len: usize,
+        answer: *mut usize,
+        answer_len: usize,
     ) -> u8;
 
     fn scanner_position(
@@ -116,6 +133,40 @@ pub fn scan(
             area.len(),
             token.as_mut_ptr(),
             token.len(),
+        )
+    }
+}
+
+/// Scans as many tokens as there is room for; the answer is the number of tokens given, those before a refusal, too.
+#[inline]
+pub fn scan_many(
+    src: &[u8],
+    state: &mut State,
+    table: &mut [usize],
+    list: &mut [usize],
+    area: &mut [u8],
+    tokens: &mut [Token],
+    answer: &mut usize,
+) -> u8 {
+    let tokens = tokens.as_flattened_mut();
+    // SAFETY: each pointer and length are those of a live slice (the answer: of one number). The lent ones that
+    // are written are exclusive borrows, so no two overlap.
+    unsafe {
+        scanner_scan_many(
+            src.as_ptr(),
+            src.len(),
+            state.as_mut_ptr(),
+            state.len(),
+            table.as_mut_ptr(),
+            table.len(),
+            list.as_mut_ptr(),
+            list.len(),
+            area.as_mut_ptr(),
+            area.len(),
+            tokens.as_mut_ptr(),
+            tokens.len(),
+            answer,
+            1,
         )
     }
 }

@@ -27,6 +27,7 @@
 #![deny(unsafe_code)]
 #![warn(missing_docs)]
 
+mod batch;
 mod buffers;
 mod error;
 mod ffi;
@@ -37,6 +38,7 @@ mod scanner;
 mod token;
 mod tokens;
 
+pub use batch::{Batch, Lent};
 pub use error::{Error, Position};
 pub use kind::{Kind, NoKind};
 pub use refusal::Refusal;

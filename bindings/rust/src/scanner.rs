@@ -3,7 +3,7 @@
 use crate::buffers::Buffers;
 use crate::ffi;
 use crate::numbers::{Numbers, Part};
-use crate::{Error, Kind, Pos, Position, Refusal, Token, Tokens};
+use crate::{Batch, Error, Kind, Pos, Position, Refusal, Token, Tokens};
 use std::borrow::Cow;
 
 /// Reads a source token by token.
@@ -12,7 +12,7 @@ pub struct Scanner<'src> {
     source: &'src [u8],
     chars: usize,
     state: ffi::State,
-    token: Numbers,
+    token: ffi::Token,
     buffers: Buffers,
 }
 
@@ -25,6 +25,9 @@ const ERRORS: usize = 6;
 impl<'src> Scanner<'src> {
     /// The longest source in bytes.
     pub const MAX_SOURCE: usize = 1_048_576;
+
+    /// The most tokens of a batch.
+    pub const MAX_BATCH: usize = 256;
 
     /// Opens a source at base 0, in a size of its number of characters.
     ///
@@ -46,7 +49,7 @@ impl<'src> Scanner<'src> {
             source,
             chars: 0,
             state: [0; 7],
-            token: Numbers::default(),
+            token: [0; 10],
             buffers: Buffers::new(source.len().min(Self::MAX_SOURCE)),
         };
         let table = &mut scanner.buffers.table;
@@ -66,13 +69,8 @@ impl<'src> Scanner<'src> {
     /// EOF, again and again.
     #[inline]
     pub fn scan(&mut self) -> Result<(Token<'src>, Pos), Refusal> {
-        let token = Token {
-            kind: self.advance()?,
-            inserted: self.inserted(),
-            text: self.kept(self.token.text())?,
-            value: self.kept(self.token.value())?,
-            code: self.code()?,
-        };
+        self.advance()?;
+        let token = self.token_of(self.last())?;
         Ok((token, self.pos()))
     }
 
@@ -93,37 +91,79 @@ impl<'src> Scanner<'src> {
             0 => {}
             number => self.repeat(number)?,
         }
-        self.token.kind()
+        self.last().kind()
+    }
+
+    /// Scans up to [`Scanner::MAX_BATCH`] tokens in one call, which takes less time than a call for each, and lends
+    /// them: an iterator, with one token at least. It ends behind EOF, and early behind a token whose text or value is
+    /// no part of the source, since the next one may need the same room. Behind EOF a batch is EOF alone, again and
+    /// again.
+    ///
+    /// The scanner is then behind the last token of the batch, however many of them were looked at: the next scan or
+    /// batch goes on there, [`Scanner::pos`] and its like tell of that token, and line count, lines of positions and
+    /// errors are those of the whole batch. [`Batch::scanner`] answers questions while the batch is in use.
+    ///
+    /// ```
+    /// # use cifgwezam::{Kind, Scanner};
+    /// let mut scanner = Scanner::new(b"quota[x] += 017 // reads")?;
+    /// let mut names = Vec::new();
+    /// let mut last = Kind::None;
+    /// while last != Kind::Eof {
+    ///     for token in scanner.batch()? {
+    ///         last = token.kind()?;
+    ///         if last == Kind::Ident {
+    ///             names.push((token.pos(), token.text()?.to_vec()));
+    ///         }
+    ///     }
+    /// }
+    /// assert_eq!(names, [(0, b"quota".to_vec()), (6, b"x".to_vec())]);
+    /// # Ok::<(), cifgwezam::Refusal>(())
+    /// ```
+    pub fn batch(&mut self) -> Result<Batch<'_, 'src>, Refusal> {
+        if self.buffers.tokens.is_empty() {
+            self.buffers.tokens = vec![[0; 10]; Self::MAX_BATCH];
+        }
+        let mut given = 0;
+        loop {
+            match self.call_many(&mut given)? {
+                0 => break,
+                // the tokens before a refusal show nothing from the area, so it may grow
+                number => self.buffers.grow(Refusal::of(number, 0))?,
+            }
+        }
+        let tokens = self.buffers.tokens.get(..given).ok_or(Refusal::DoesNotFit)?;
+        self.token = *tokens.last().ok_or(Refusal::DoesNotFit)?;
+        Ok(Batch::new(self, &self.buffers.tokens[..given]))
     }
 
     /// The position of the last token's first character; 0 before the first scan.
     #[inline]
     pub fn pos(&self) -> Pos {
-        self.token.pos()
+        self.last().pos()
     }
 
     /// The text of the last token, as [`Token::text`].
     #[inline]
     pub fn text(&self) -> Result<&[u8], Refusal> {
-        self.lent(self.token.text())
+        self.lent(self.last().text())
     }
 
     /// The value of the last token, as [`Token::value`].
     #[inline]
     pub fn value(&self) -> Result<&[u8], Refusal> {
-        self.lent(self.token.value())
+        self.lent(self.last().value())
     }
 
     /// The character of the last token, as [`Token::code`].
     #[inline]
     pub fn code(&self) -> Result<Option<char>, Refusal> {
-        self.token.code()
+        self.last().code()
     }
 
     /// Whether the last token is a semicolon that does not stand in the source.
     #[inline]
     pub fn inserted(&self) -> bool {
-        self.token.inserted()
+        self.last().inserted()
     }
 
     /// The tokens that are left, each with its position, up to EOF, which is not among them.
@@ -185,7 +225,17 @@ impl<'src> Scanner<'src> {
     #[inline]
     fn call(&mut self) -> u8 {
         let Buffers { table, list, area, .. } = &mut self.buffers;
-        ffi::scan(self.source, &mut self.state, table, list, area, &mut self.token.0)
+        ffi::scan(self.source, &mut self.state, table, list, area, &mut self.token)
+    }
+
+    /// One call for the tokens of a batch behind those that were given; counts the new ones, too.
+    fn call_many(&mut self, given: &mut usize) -> Result<u8, Refusal> {
+        let Buffers { table, list, area, tokens, .. } = &mut self.buffers;
+        let room = tokens.get_mut(*given..).ok_or(Refusal::DoesNotFit)?;
+        let mut more = 0;
+        let number = ffi::scan_many(self.source, &mut self.state, table, list, area, room, &mut more);
+        *given = given.saturating_add(more);
+        Ok(number)
     }
 
     /// Repeats a refused call with larger buffers.
@@ -196,6 +246,24 @@ impl<'src> Scanner<'src> {
             number = self.call();
         }
         Ok(())
+    }
+
+    /// The numbers of the last token.
+    #[inline]
+    fn last(&self) -> Numbers<'_> {
+        Numbers(&self.token)
+    }
+
+    /// A token to keep, while its text and value stand where its scan left them.
+    #[inline]
+    pub(crate) fn token_of(&self, numbers: Numbers) -> Result<Token<'src>, Refusal> {
+        Ok(Token {
+            kind: numbers.kind()?,
+            inserted: numbers.inserted(),
+            text: self.kept(numbers.text())?,
+            value: self.kept(numbers.value())?,
+            code: numbers.code()?,
+        })
     }
 
     /// A text or value to keep: a part of the source, or a copy from the area.
@@ -209,7 +277,7 @@ impl<'src> Scanner<'src> {
 
     /// A text or value where it stands.
     #[inline]
-    fn lent(&self, part: Part) -> Result<&[u8], Refusal> {
+    pub(crate) fn lent(&self, part: Part) -> Result<&[u8], Refusal> {
         part.of(if part.in_area { &self.buffers.area } else { self.source })
     }
 
