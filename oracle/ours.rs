@@ -1,7 +1,7 @@
 //! Runs our scanner: the proved library, through its Rust crate.
 
 use crate::listing::{End, Listing, Row};
-use cifgwezam::{Kind, Refusal, Scanner};
+use cifgwezam::{Kind, Pos, Refusal, Scanner, Token};
 
 /// Our listing of a source. Offsets are less the base.
 pub fn list(source: &[u8], base: usize, size: usize, out: &mut Listing) {
@@ -23,15 +23,18 @@ fn refused(refusal: Refusal) -> End {
     End::Refused { number: refusal.number(), place }
 }
 
-// False if no EOF came.
+// False if no EOF came. A source of an even number of bytes is scanned in batches, any other token by token.
 fn run(source: &[u8], base: usize, size: usize, out: &mut Listing) -> Result<bool, Refusal> {
     let mut scanner = Scanner::with_size(source, base, size)?;
+    let batches = source.len() % 2 == 0;
     let mut left = 2 * scanner.char_count() + 2;
-    while put_token(&mut scanner, out)? != Kind::Eof {
-        left -= 1;
+    let mut last = None;
+    while last != Some(Kind::Eof) {
         if left == 0 {
             return Ok(false);
         }
+        left -= 1;
+        last = if batches { put_batch(&mut scanner, out)? } else { put_one(&mut scanner, out)? };
     }
     for e in scanner.errors()? {
         out.errors.push([e.position.offset, e.position.line, e.position.column, usize::from(e.number)]);
@@ -42,24 +45,41 @@ fn run(source: &[u8], base: usize, size: usize, out: &mut Listing) -> Result<boo
     Ok(true)
 }
 
-fn put_token(scanner: &mut Scanner, out: &mut Listing) -> Result<Kind, Refusal> {
-    let kind = scanner.advance()?;
-    let at = scanner.position(scanner.pos())?;
+// The kind of the last token of a batch.
+fn put_batch(scanner: &mut Scanner, out: &mut Listing) -> Result<Option<Kind>, Refusal> {
+    let batch = scanner.batch()?;
+    let asked = batch.scanner();
+    let mut last = None;
+    for lent in batch {
+        put(asked, &lent.keep()?, lent.pos(), out)?;
+        last = Some(lent.kind()?);
+    }
+    Ok(last)
+}
+
+fn put_one(scanner: &mut Scanner, out: &mut Listing) -> Result<Option<Kind>, Refusal> {
+    let (token, pos) = scanner.scan()?;
+    put(scanner, &token, pos, out)?;
+    Ok(Some(token.kind))
+}
+
+fn put(scanner: &Scanner, token: &Token, pos: Pos, out: &mut Listing) -> Result<(), Refusal> {
+    let at = scanner.position(pos)?;
     let row = Row {
         // by the token itself; the position's own offset is checked below
-        offset: scanner.pos().wrapping_sub(scanner.base()),
+        offset: pos.wrapping_sub(scanner.base()),
         line: at.line,
         column: at.column,
-        kind: kind as u8,
-        inserted: scanner.inserted(),
-        code: scanner.code()?.map_or(0, u32::from),
+        kind: token.kind as u8,
+        inserted: token.inserted,
+        code: token.code.map_or(0, u32::from),
         ..Row::default()
     };
     assert_eq!(row.offset, at.offset, "a position's offset");
-    let written = kind == Kind::Semicolon && !row.inserted;
-    let text = scanner.text()?;
-    out.push(row, if written && text.is_empty() { b";" } else { text }, scanner.value()?);
-    Ok(kind)
+    let written = token.kind == Kind::Semicolon && !row.inserted;
+    let text = &token.text[..];
+    out.push(row, if written && text.is_empty() { b";" } else { text }, &token.value);
+    Ok(())
 }
 
 /// What ours answers to a question; the number of the refusal if there is none.
