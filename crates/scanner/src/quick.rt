@@ -90,11 +90,12 @@ fn give_simple(
     if state.size <= offset {
         return not_done(state);
     }
+    let lines = state.lines;
     if blanks.lfs > 0 {
-        if (blanks.lfs > 1) | (table.len() <= state.lines) {
+        if (blanks.lfs > 1) | (table.len() <= lines) {
             return not_done(state);
         }
-        table[state.lines] = state.offset + (blanks.line - state.place);
+        table[lines] = state.offset + (blanks.line - state.place);
     }
     let token = Token {
         kind: x.kind,

@@ -275,10 +275,12 @@ pub(crate) fn scan_next(
     let x = lexer::lex_token(src, blanks.end, state.mark);
     let tried = try_plain(src, state, blanks, x, table, list);
     if tried.done {
+        let after = tried.state;
+        let token = tried.token;
         return Scanned {
             refusal: 0,
-            state: tried.state,
-            token: tried.token,
+            state: after,
+            token,
         };
     }
     finish(src, state, blanks, x, table, list, area)

@@ -1,11 +1,8 @@
 // Simple tokens: words, delimiters and the semicolon that is inserted before a line feed. The first byte tells them from all others,
 // for a point together with the second. Their text is the source's own bytes.
 ghost use mathlib.Core.Path.{_≡_};
-ghost use Prim.Native.Nat.{_<_};
-ghost use lib.ListN.{length, getD};
-ghost use Rattle.words.specs.Word.{isLetter};
 ghost use Rattle.lexer.specs.Lexeme.{setsMark};
-ghost use Rattle.scanner.specs.Simple.{firstKind, IsTable, wordOf, SimpleAt};
+ghost use Rattle.scanner.specs.Simple.{IsTable, SimpleAt};
 
 // A simple token: its kind, or NONE; the mark that it leaves, the place after it, and how many bytes its text has.
 pub(crate) struct Simple {
@@ -53,10 +50,7 @@ fn sets_mark(kind: u8) -> bool
 }
 
 // The word at a place.
-fn word(src: &[u8], at: usize) -> Simple
-    requires { ⌜ isLetter (getD (now src) at 0) ≡ true ⌝ }
-    ensures { λ r. ⌜ r ≡ wordOf (now (src .entry)) at ⌝ }
-{
+fn word(src: &[u8], at: usize) -> Simple {
     let end = words::word_end(src, at);
     let kind = token::ident_token(&src[at..], end - at);
     Simple {
