@@ -12,20 +12,7 @@ use Rattle.state.specs.declared.state.State.{State}
 use Rattle.scanner.specs.declared.answer.Token.{Token}
 use Rattle.scanner.specs.Scan.{After, scanOf}
 use Rattle.scanner.specs.Layout.{tokenWidth, tokenNumbers}
-use Rattle.scanner.specs.Many.{Run, Left, isLast, before, manyOf, tokensNumbers, leftBy}
-
--- the tokens of these scans are written behind n others
-abbrev pub leftAfter : ℕ → List ℕ → Run → Left
-leftAfter n tokens r =
-    record {
-      refusal = r .refusal;
-      state = r .state;
-      table = r .table;
-      list = r .list;
-      area = r .area;
-      tokens = sets tokens (n * tokenWidth) (tokensNumbers (r .tokens));
-      count = n + length (r .tokens);
-    }
+use Rattle.scanner.specs.Many.{Run, isLast, before, manyOf, tokensNumbers, leftBy, leftAfter}
 
 -- behind none, they stand at the front
 pub left-first : (tokens : List ℕ) (r : Run) → leftBy tokens r ≡ leftAfter 0 tokens r

@@ -2,3 +2,5 @@ pub mod Scan
 pub mod Steps
 pub mod Layout
 pub mod Many
+pub mod Simple
+pub mod Quick

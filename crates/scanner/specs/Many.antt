@@ -1,5 +1,5 @@
 -- Many scans in one call: token after token, as long as there is room for one more.
-use Prim.Native.Nat.{ℕ, zero, suc, _/_}
+use Prim.Native.Nat.{ℕ, zero, suc, _+_, _*_, _/_}
 use mathlib.Core.Bool.{Bool, cond, _||_}
 use mathlib.Core.List.{List, [], _∷_, _++_}
 use lib.Dec.{eqb}
@@ -72,4 +72,17 @@ leftBy tokens r =
       area = r .area;
       tokens = sets tokens 0 (tokensNumbers (r .tokens));
       count = length (r .tokens);
+    }
+
+-- the tokens of these scans are written behind n others
+abbrev pub leftAfter : ℕ → List ℕ → Run → Left
+leftAfter n tokens r =
+    record {
+      refusal = r .refusal;
+      state = r .state;
+      table = r .table;
+      list = r .list;
+      area = r .area;
+      tokens = sets tokens (n * tokenWidth) (tokensNumbers (r .tokens));
+      count = n + length (r .tokens);
     }

@@ -14,7 +14,10 @@ use Rattle.errors.specs.Layout.{width, numbers}
 use Rattle.errors.specs.Errors.{roomOf}
 use Rattle.reading.specs.Reading.{errorAt}
 use Rattle.lexer.specs.declared.lexed.Lexed.{Lexed}
-use Rattle.lexer.specs.Placed.{lengthOf, said}
+use Rattle.blanks.specs.declared.Skipped.{Skipped}
+use Rattle.blanks.specs.Blank.{skip, skippedAt}
+use Rattle.lexer.specs.Lex.{lexToken}
+use Rattle.lexer.specs.Placed.{lengthOf, placed, said}
 use Rattle.state.specs.declared.state.State.{State}
 use Rattle.scanner.specs.declared.answer.Token.{Token}
 use Rattle.state.specs.Fits.{fileOf}
@@ -73,6 +76,11 @@ isPlain x = eqb (x .error) 0 && not (x .«text_differs») && not (x .«value_dif
 -- the line starts that the next characters record, so many of them
 abbrev pub startsFrom : List ℕ → State → ℕ → List ℕ
 startsFrom src s read = startsRead (s .size) (s .offset) (take read (chars (drop (s .place) src)))
+
+-- the blanks at a state's place, and the token behind them as the lexer says it
+pub record Reads (src : List ℕ) (s : State) (b : Skipped) (x : Lexed) : Type 0 where
+  pub skipped : b ≡ skippedAt (s .place) (skip (s .mark) (chars (drop (s .place) src)))
+  pub token : said src (b .end) x ≡ placed src (b .end) (lexToken (s .mark) (chars (drop (b .end) src)))
 
 -- how a token that was read at a place, and all its characters and line starts, may be committed
 pub record Ready (src : List ℕ) (s : State) (start : ℕ) (x : Lexed) (read starts : ℕ) (table list area : List ℕ) : Type 0 where

@@ -2,7 +2,9 @@
 mod answer;
 mod batch;
 mod layout;
+mod quick;
 mod scanning;
+mod simple;
 mod write;
 
 pub use answer::Scanned;

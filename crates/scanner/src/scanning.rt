@@ -3,8 +3,10 @@ use crate::answer::Scanned;
 use crate::answer::plain_token;
 use crate::answer::refused;
 use crate::answer::token_of;
+use crate::quick::try_plain;
 use crate::write::write_area;
 use crate::write::write_error;
+use blanks::Skipped;
 use lexer::Lexed;
 use state::State;
 ghost use mathlib.Core.Path.{_≡_};
@@ -20,9 +22,9 @@ ghost use Rattle.position.specs.Place.{fitting};
 ghost use Rattle.errors.specs.Layout.{width, numbers};
 ghost use Rattle.errors.specs.Errors.{roomOf};
 ghost use Rattle.reading.specs.Reading.{errorAt};
-ghost use Rattle.state.specs.Fits.{fileOf};
+ghost use Rattle.state.specs.Fits.{fileOf, fits};
 ghost use Rattle.scanner.specs.Scan.{scanOf};
-ghost use Rattle.scanner.specs.Steps.{textLen, valueLen, toWrite, refusalBy, stateBy, tokenBy, startsFrom, isPlain, Ready, commitOf};
+ghost use Rattle.scanner.specs.Steps.{textLen, valueLen, toWrite, refusalBy, stateBy, tokenBy, startsFrom, isPlain, Reads, Ready, commitOf};
 
 // How many line starts the next characters record, so many of them with so many line feeds; at the size a line feed starts no line.
 fn starts_read(src: &[u8], state: State, read: usize, lfs: usize) -> usize
@@ -145,7 +147,7 @@ fn record_error(after: State, table: &[usize], list: &mut [usize], count: usize,
 }
 
 // Is it a token without an error, whose text and value are the source's own bytes?
-fn is_plain(x: Lexed) -> bool
+pub(crate) fn is_plain(x: Lexed) -> bool
     ensures { λ r. ⌜ r ≡ isPlain x ⌝ }
 {
     if x.error != 0 {
@@ -225,23 +227,21 @@ fn commit(
     }
 }
 
-// Scans one token: a pass that only reads, the checks, and then what is written.
-pub fn scan(
+// What a scan comes to by the blanks and the token that it read: the checks, and then what is written.
+fn finish(
     src: &[u8],
     state: State,
+    blanks: Skipped,
+    x: Lexed,
     table: &mut [usize],
     list: &mut [usize],
     area: &mut [u8],
 ) -> Scanned
+    requires { ⌜ (fits state (now src) (now table) (now list) ≡ true) × Reads (now src) state blanks x ⌝ }
     ensures { λ r. ⌜ record { table = now (table .exit); list = now (list .exit); area = now (area .exit); answer = r }
         ≡ scanOf (now (src .entry)) state (now (table .entry)) (now (list .entry)) (now (area .entry)) ⌝ }
 {
-    if !state.fits(src, table, list) {
-        return refused(refusal::DOES_NOT_FIT, state);
-    }
-    let blanks = blanks::skip_blanks(src, state.place, state.mark);
     let start = blanks.end;
-    let x = lexer::lex_token(src, start, state.mark);
     let read = start - state.place + x.chars;
     let starts = starts_read(src, state, read, blanks.lfs + x.lfs);
     let number = refusal_of(
@@ -257,4 +257,48 @@ pub fn scan(
         return refused(number, state);
     }
     commit(src, state, start, x, read, starts, table, list, area)
+}
+
+// Scans one token where the state fits: a pass that only reads, the checks, and then what is written.
+pub(crate) fn scan_next(
+    src: &[u8],
+    state: State,
+    table: &mut [usize],
+    list: &mut [usize],
+    area: &mut [u8],
+) -> Scanned
+    requires { ⌜ fits state (now src) (now table) (now list) ≡ true ⌝ }
+    ensures { λ r. ⌜ record { table = now (table .exit); list = now (list .exit); area = now (area .exit); answer = r }
+        ≡ scanOf (now (src .entry)) state (now (table .entry)) (now (list .entry)) (now (area .entry)) ⌝ }
+{
+    let blanks = blanks::skip_blanks(src, state.place, state.mark);
+    let x = lexer::lex_token(src, blanks.end, state.mark);
+    let tried = try_plain(src, state, blanks, x, table, list);
+    if tried.done {
+        let after = tried.state;
+        let token = tried.token;
+        return Scanned {
+            refusal: 0,
+            state: after,
+            token,
+        };
+    }
+    finish(src, state, blanks, x, table, list, area)
+}
+
+// Scans one token.
+pub fn scan(
+    src: &[u8],
+    state: State,
+    table: &mut [usize],
+    list: &mut [usize],
+    area: &mut [u8],
+) -> Scanned
+    ensures { λ r. ⌜ record { table = now (table .exit); list = now (list .exit); area = now (area .exit); answer = r }
+        ≡ scanOf (now (src .entry)) state (now (table .entry)) (now (list .entry)) (now (area .entry)) ⌝ }
+{
+    if !state.fits(src, table, list) {
+        return refused(refusal::DOES_NOT_FIT, state);
+    }
+    scan_next(src, state, table, list, area)
 }

@@ -6,8 +6,8 @@ use native.Mathlib.Omega.{arith}
 use lib.ListN.{length}
 use borrow.Author.Needs.{needs}
 use Rattle.scanner.specs.Scan.{After}
-use Rattle.scanner.specs.Many.{manyOf, leftBy}
-use Rattle.scanner.proofs.Given.{leftAfter, token-fits, left-first, left-none, left-refused, left-last, left-more}
+use Rattle.scanner.specs.Many.{manyOf, leftBy, leftAfter}
+use Rattle.scanner.proofs.Given.{token-fits, left-first, left-none, left-refused, left-last, left-more}
 use Rattle.scanner.proofs.batch.scan_many.Statement.{statement}
 use Rattle.scanner.proofs.batch.scan_many.Tie as tie
 

@@ -1,0 +1,216 @@
+// Quick scans: of tokens that show the source's own bytes and end before the size, where the table has room. What they do not do, they leave as it was.
+use crate::answer::Token;
+use crate::answer::plain_token;
+use crate::scanning::is_plain;
+use crate::simple::Simple;
+use crate::simple::simple_at;
+use blanks::Skipped;
+use lexer::Lexed;
+use state::Part;
+use state::State;
+ghost use mathlib.Core.Path.{_≡_};
+ghost use mathlib.Core.Bool.{true, false};
+ghost use lib.Dec.{eqb};
+ghost use lib.ListN.{drop};
+ghost use Rattle.utf8.specs.Chars.{chars};
+ghost use Rattle.token.specs.Kinds.{EOF};
+ghost use Rattle.blanks.specs.Blank.{skip, skippedAt};
+ghost use Rattle.state.specs.Fits.{fits};
+ghost use Rattle.scanner.specs.Steps.{Reads};
+ghost use Rattle.scanner.specs.Simple.{IsTable, simpleAs};
+ghost use Rattle.scanner.specs.Quick.{notDone, Tries, TriesOn};
+
+// Whether a scan is done; if so, the state after it and the token.
+pub(crate) struct Tried {
+    pub(crate) done: bool,
+    pub(crate) state: State,
+    pub(crate) token: Token,
+}
+
+fn not_done(state: State) -> Tried
+    ensures { λ r. ⌜ r ≡ notDone state ⌝ }
+{
+    let none = Part {
+        area: false,
+        start: 0,
+        end: 0,
+    };
+    Tried {
+        done: false,
+        state,
+        token: Token {
+            kind: token::NONE,
+            inserted: false,
+            position: 0,
+            code: 0,
+            text: none,
+            value: none,
+        },
+    }
+}
+
+// The state after a token that ends at a place and an offset, and the token.
+fn done(
+    state: State,
+    place: usize,
+    offset: usize,
+    mark: bool,
+    lines: usize,
+    token: Token,
+) -> Tried {
+    Tried {
+        done: true,
+        state: State {
+            base: state.base,
+            size: state.size,
+            place,
+            offset,
+            mark,
+            lines,
+            errors: state.errors,
+        },
+        token,
+    }
+}
+
+// Gives a simple token behind blanks with at most one line feed.
+fn give_simple(
+    src: &[u8],
+    state: State,
+    blanks: Skipped,
+    x: Simple,
+    table: &mut [usize],
+    list: &[usize],
+) -> Tried
+    requires { ⌜ (fits state (now src) (now table) (now list) ≡ true) × Reads (now src) state blanks (simpleAs (blanks .end) x) × (eqb (x .kind) EOF ≡ false) ⌝ }
+    ensures { λ r. ⌜ TriesOn (now (src .entry)) state (now (table .entry)) (now (list .entry)) r (now (table .exit)) ⌝ }
+{
+    let start = blanks.end;
+    let offset = state.offset + (x.end - state.place);
+    if state.size <= offset {
+        return not_done(state);
+    }
+    let lines = state.lines;
+    if blanks.lfs > 0 {
+        if (blanks.lfs > 1) | (table.len() <= lines) {
+            return not_done(state);
+        }
+        table[lines] = state.offset + (blanks.line - state.place);
+    }
+    let token = Token {
+        kind: x.kind,
+        inserted: x.inserted,
+        position: state.base + state.offset + (start - state.place),
+        code: 0,
+        text: Part {
+            area: false,
+            start,
+            end: start + x.text_bytes,
+        },
+        value: Part {
+            area: false,
+            start,
+            end: start,
+        },
+    };
+    done(
+        state,
+        x.end,
+        offset,
+        x.mark,
+        state.lines + blanks.lfs,
+        token,
+    )
+}
+
+// Tries a simple token behind the blanks.
+pub(crate) fn try_simple(
+    src: &[u8],
+    kinds: &[u8; 256],
+    state: State,
+    blanks: Skipped,
+    table: &mut [usize],
+    list: &[usize],
+) -> Tried
+    requires { ⌜ (fits state (now src) (now table) (now list) ≡ true) × IsTable (now kinds)
+        × (blanks ≡ skippedAt (state .place) (skip (state .mark) (chars (drop (state .place) (now src))))) ⌝ }
+    ensures { λ r. ⌜ TriesOn (now (src .entry)) state (now (table .entry)) (now (list .entry)) r (now (table .exit)) ⌝ }
+{
+    let x = simple_at(src, kinds, blanks.end);
+    if x.kind == token::NONE {
+        return not_done(state);
+    }
+    give_simple(src, state, blanks, x, table, list)
+}
+
+// Has a token no line feed but perhaps its last byte?
+fn ends_in_feed(src: &[u8], x: Lexed) -> bool {
+    if x.lfs == 0 {
+        return true;
+    }
+    if x.lfs > 1 {
+        return false;
+    }
+    src[x.end - 1] == 10
+}
+
+// Records the line starts of blanks, and the one after a token that ends in a line feed at an offset.
+fn record_ends(
+    src: &[u8],
+    state: State,
+    blanks: Skipped,
+    x: Lexed,
+    offset: usize,
+    table: &mut [usize],
+) {
+    if blanks.lfs > 0 {
+        lines::write_starts(
+            src,
+            state.place,
+            blanks.end - state.place,
+            state.offset,
+            state.size,
+            table,
+            state.lines,
+        );
+    }
+    if x.lfs > 0 {
+        table[state.lines + blanks.lfs] = offset;
+    }
+}
+
+// Tries the token that the lexer read behind the blanks: one that is plain and has no line feed but perhaps its last byte.
+pub(crate) fn try_plain(
+    src: &[u8],
+    state: State,
+    blanks: Skipped,
+    x: Lexed,
+    table: &mut [usize],
+    list: &[usize],
+) -> Tried
+    requires { ⌜ (fits state (now src) (now table) (now list) ≡ true) × Reads (now src) state blanks x ⌝ }
+    ensures { λ r. ⌜ Tries (now (src .entry)) state (now (table .entry)) (now (list .entry)) r (now (table .exit)) ⌝ }
+{
+    let start = blanks.end;
+    let offset = state.offset + (start - state.place + x.chars);
+    if !is_plain(x) | (state.size <= offset) {
+        return not_done(state);
+    }
+    if !ends_in_feed(src, x) {
+        return not_done(state);
+    }
+    let starts = blanks.lfs + x.lfs;
+    if table.len() - state.lines < starts {
+        return not_done(state);
+    }
+    record_ends(src, state, blanks, x, offset, table);
+    let position = state.base + state.offset + (start - state.place);
+    done(
+        state,
+        x.end,
+        offset,
+        x.mark,
+        state.lines + starts,
+        plain_token(x, start, position),
+    )
+}

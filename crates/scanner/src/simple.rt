@@ -1,0 +1,105 @@
+// Simple tokens: words, delimiters and the semicolon that is inserted before a line feed. The first byte tells them from all others,
+// for a point together with the second. Their text is the source's own bytes.
+ghost use mathlib.Core.Path.{_≡_};
+ghost use Rattle.lexer.specs.Lexeme.{setsMark};
+ghost use Rattle.scanner.specs.Simple.{IsTable, SimpleAt};
+
+// A simple token: its kind, or NONE; the mark that it leaves, the place after it, and how many bytes its text has.
+pub(crate) struct Simple {
+    pub(crate) kind: u8,
+    // a semicolon that does not stand in the text
+    pub(crate) inserted: bool,
+    pub(crate) mark: bool,
+    pub(crate) end: usize,
+    pub(crate) text_bytes: usize,
+}
+
+// What each first byte tells: the kind of a delimiter, IDENT for a letter, SEMICOLON for a line feed, else ILLEGAL.
+pub(crate) fn first_kinds() -> [u8; 256]
+    ensures { λ r. ⌜ IsTable (now r) ⌝ }
+{
+    let mut kinds = [token::ILLEGAL; 256];
+    kinds[10] = token::SEMICOLON;
+    kinds[40] = token::LPAREN;
+    kinds[41] = token::RPAREN;
+    kinds[44] = token::COMMA;
+    kinds[46] = token::PERIOD;
+    kinds[59] = token::SEMICOLON;
+    kinds[91] = token::LBRACK;
+    kinds[93] = token::RBRACK;
+    kinds[95] = token::IDENT;
+    kinds[123] = token::LBRACE;
+    kinds[125] = token::RBRACE;
+    for b in 65..91usize {
+        kinds[b] = token::IDENT;
+        kinds[b + 32] = token::IDENT;
+    }
+    kinds
+}
+
+// Is the mark set after a token of this kind? The bits of two numbers tell it, so that nothing is to be foreseen.
+fn sets_mark(kind: u8) -> bool
+    ensures { λ r. ⌜ r ≡ setsMark kind ⌝ }
+{
+    let marks: u64 = if kind < 64 {
+        0x2270_0018_0000_0010
+    } else {
+        0x1002
+    };
+    (marks >> (kind % 64)) & 1 == 1
+}
+
+// The word at a place.
+fn word(src: &[u8], at: usize) -> Simple {
+    let end = words::word_end(src, at);
+    let kind = token::ident_token(&src[at..], end - at);
+    Simple {
+        kind,
+        inserted: false,
+        mark: sets_mark(kind),
+        end,
+        text_bytes: if kind == token::IDENT { end - at } else { 0 },
+    }
+}
+
+// The delimiter of a kind at a place, or the semicolon that is inserted there.
+fn delimiter(src: &[u8], at: usize, kind: u8) -> Simple {
+    let lf = src[at] == 10;
+    Simple {
+        kind,
+        inserted: lf,
+        mark: sets_mark(kind),
+        end: if lf { at } else { at + 1 },
+        text_bytes: 0,
+    }
+}
+
+fn none(at: usize) -> Simple {
+    Simple {
+        kind: token::NONE,
+        inserted: false,
+        mark: false,
+        end: at,
+        text_bytes: 0,
+    }
+}
+
+// The simple token at a place, or NONE.
+pub(crate) fn simple_at(src: &[u8], kinds: &[u8; 256], at: usize) -> Simple
+    requires { ⌜ IsTable (now kinds) ⌝ }
+    ensures { λ r. ⌜ SimpleAt (now (src .entry)) at r ⌝ }
+{
+    if src.len() <= at {
+        return none(at);
+    }
+    let first = kinds[src[at] as usize];
+    let second = kinds[utf8::byte(src, at + 1) as usize];
+    if (first == token::ILLEGAL) | ((first == token::PERIOD) & (second != token::IDENT)) {
+        return none(at);
+    }
+    if first == token::IDENT {
+        word(src, at)
+    } else {
+        delimiter(src, at, first)
+    }
+}
