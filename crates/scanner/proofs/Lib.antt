@@ -3,6 +3,7 @@ pub mod Recorded
 pub mod Pass
 pub mod Refusals
 pub mod Scans
+pub mod Fitting
 pub mod Committed
 pub mod Parts
 pub mod Given

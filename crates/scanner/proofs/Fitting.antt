@@ -1,0 +1,149 @@
+-- Behind a scan that is not refused the state fits again: the source, and the buffers as they were left.
+use Prim.Native.Nat.{ℕ, zero, suc, _+_, _-_, _*_, _/_, _≤_}
+use mathlib.Core.Path.{_≡_, refl, ap}
+use mathlib.Core.Bool.{Bool, true, false, cond}
+use mathlib.Core.List.{List, [], _∷_}
+use native.Mathlib.Omega.{arith}
+use lib.Dec.{eqb, ltb}
+use lib.ListN.{length, take, drop, length-append, List·getD-append}
+use lib.Seq.{sets, length-sets, length-take-le}
+use borrow.Author.Tests.{le-leb, ltb-false}
+use Rattle.basics.proofs.Choice.{cond-ind}
+use Rattle.utf8.specs.declared.Char.{Char}
+use Rattle.utf8.specs.Chars.{chars, widths}
+use Rattle.utf8.proofs.Places.{place-fits}
+use Rattle.position.specs.Lines.{lineStart}
+use Rattle.position.specs.Place.{placed as among}
+use Rattle.position.proofs.Lines.{FromZero, from-zero-append}
+use Rattle.position.proofs.Place.{Fit, fit, fit-true, from-zero, last-start}
+use Rattle.errors.specs.Layout.{width, numbers}
+use Rattle.errors.specs.Errors.{roomOf}
+use Rattle.bodies.specs.Body.{count}
+use Rattle.bodies.proofs.Counts.{count-fits}
+use Rattle.lines.proofs.Kept.{read-last}
+use Rattle.lexer.specs.Lexeme.{Lexeme, taken}
+use Rattle.lexer.specs.Lex.{lex}
+use Rattle.lexer.specs.Placed.{Placed, placed}
+use Rattle.lexer.proofs.Laws.{lex-laws}
+use Rattle.reading.specs.Reading.{Reading, errorAt, after}
+use Rattle.reading.proofs.Step.{after-from-zero}
+use Rattle.state.specs.declared.state.State.{State}
+use Rattle.state.specs.Fits.{fileOf, fits}
+use Rattle.scanner.specs.Scan.{view, written, startOf, toArea, tokenOf, refusalOf, After, stateOf, withError, gaveBy, unless, scanBy, scanOf}
+use Rattle.scanner.proofs.Scans.{Held, held}
+
+-- a state with all that fitting asks
+pub fits-held : (s : State) (src table list : List ℕ) → Held s src table list → s .offset ≤ s .size → fits s src table list ≡ true
+fits-held s src table list k h =
+    let g = fit (fileOf s) table (k .fitted) in
+    let top : among (fileOf s) ≡ true = unfold among in le-leb _ _ (g .top) in
+    rw (
+      le-leb _ _ (k .offset),
+      le-leb (s .offset) (s .size) h,
+      le-leb _ _ (g .some),
+      top,
+      k .fitted,
+      le-leb _ _ (k .last),
+      le-leb _ _ (k .place),
+      le-leb _ _ (k .errors),
+    )
+
+-- every character is counted by a test that always holds
+counted : (cs : List Char) → count (λ c. true) cs ≡ length cs
+counted [] = refl
+counted (c ∷ cs) = omega (arith, counted cs)
+
+-- an error is written within the list
+room-with : (number n : ℕ) (list : List ℕ) (u : Reading) → roomOf (withError number n list u) ≡ roomOf list
+room-with number n list u =
+    cond-ind (λ l. roomOf l ≡ roomOf list) (eqb number 0) list (sets list (n * width) (numbers (errorAt number (u .offset) (u .lines))))
+    (λ _. refl)
+    (λ _. ap (λ k. k / width) (length-sets list (n * width) (numbers (errorAt number (u .offset) (u .lines)))))
+
+last-written : (starts table : List ℕ) → 1 ≤ length starts → lineStart (written starts table) (length starts) ≡ lineStart starts (length starts)
+last-written starts table h = List·getD-append starts (drop (length starts) table) 0 (length starts - 1) (omega arith)
+
+-- ---- what a lexeme leaves, where the buffers have room for it
+module _ (src : List ℕ) (s : State) (table list : List ℕ) (k : Held s src table list) (y : Lexeme) (bound : taken y ≤ length (view src s table list .rest)) where
+  abbrev v : Reading
+  v = after (s .size) y (view src s table list)
+
+  pub held-after : length (v .lines) ≤ length table → length (v .errors) ≤ roomOf list
+      → Held (stateOf s v) src (written (v .lines) table) (withError (y .error) (s .errors) list v)
+  unfolding after view
+  held-after inTable inList =
+      record {
+        fitted = fit-true _ _ (record {
+          top = g .top;
+          some = starts .some;
+          held = omega (arith, length-append (v .lines) (drop (length (v .lines)) table));
+          first = from-zero-append (v .lines) (drop (length (v .lines)) table) starts .first;
+        });
+        offset = omega (arith, k .offset, wide, counted cs, taken-is);
+        last = rw (last-written (v .lines) table (starts .some)) (omega (arith, last, taken-is));
+        place = place-fits (taken y) src (s .place) (k .place);
+        errors = rw (room-with (y .error) (s .errors) list v) inList;
+      }
+    where
+      g : Fit (fileOf s) table
+      g = fit (fileOf s) table (k .fitted)
+
+      cs : List Char
+      cs = take (taken y) (chars (drop (s .place) src))
+
+      taken-is : length cs ≡ taken y
+      taken-is = length-take-le (taken y) (chars (drop (s .place) src)) bound
+
+      starts : FromZero (v .lines)
+      starts = after-from-zero (s .size) y (view src s table list) (from-zero (fileOf s) table g)
+
+      wide : count (λ c. true) cs ≤ widths cs
+      wide = count-fits (λ c. true) (taken y) src (s .place)
+
+      last : lineStart (v .lines) (length (v .lines)) ≤ s .offset + length cs
+      last = read-last (s .size) (s .offset) cs (take (s .lines) table) (rw (last-start (fileOf s) table g) (k .last))
+
+-- ---- a scan
+-- one that is not refused gave something
+given : (P : After → Type 0) (n : ℕ) (a : After) (s : State) (table list area : List ℕ) → unless n a s table list area .answer .refusal ≡ 0 → (n ≡ 0 → P a) → P (unless n a s table list area)
+given P zero a s table list area e f = f refl
+given P (suc n) a s table list area e f = absurd (omega arith)
+
+-- and was within the size, and had room for the line starts and the errors
+roomy : (size table list area : Bool) → _≡_ {A = ℕ} (cond size 3 (cond table 7 (cond list 8 (cond area 9 0)))) 0 → (size ≡ false) × (table ≡ false) × (list ≡ false)
+roomy true table list area e = absurd (omega arith)
+roomy false true list area e = absurd (omega arith)
+roomy false false true area e = absurd (omega arith)
+roomy false false false area e = (refl, refl, refl)
+
+module _ (src : List ℕ) (s : State) (table list area : List ℕ) (holds : fits s src table list ≡ true) where
+  -- how far the source has been read, what is read there and how it stands in the source, and how far the source is read then
+  abbrev r : Reading
+  r = view src s table list
+
+  abbrev x : Lexeme
+  x = lex (r .mark) (r .rest)
+
+  abbrev p : Placed
+  p = placed src (startOf r x) x
+
+  abbrev u : Reading
+  u = after (s .size) x r
+
+  abbrev refusal : ℕ
+  refusal = refusalOf (fits s src table list) (s .size) u (length table) (roomOf list) (length (toArea p)) (length area)
+
+  gives-fits : refusal ≡ 0 → fits (stateOf s u) src (written (u .lines) table) (withError (x .error) (s .errors) list u) ≡ true
+  gives-fits z =
+      let q = roomy (ltb (s .size) (u .offset)) (ltb (length table) (length (u .lines))) (ltb (roomOf list) (length (u .errors))) (ltb (length area) (length (toArea p))) (rw holds at z) in
+      fits-held (stateOf s u) src (written (u .lines) table) (withError (x .error) (s .errors) list u)
+      (held-after src s table list (held s src table list holds) x (lex-laws .bound _ _) (ltb-false _ _ (q .1)) (ltb-false _ _ (q .2)))
+      (ltb-false _ _ (q .0))
+
+  -- what the scan leaves is taken by the next
+  pub fits-after : scanOf src s table list area .answer .refusal ≡ 0
+      → let a = scanOf src s table list area in fits (a .answer .state) src (a .table) (a .list) ≡ true
+  unfolding scanOf scanBy placed
+  fits-after e =
+      given (λ (a : After). fits (a .answer .state) src (a .table) (a .list) ≡ true) refusal
+      (gaveBy s p (tokenOf (s .base) (startOf r x) r p) u table list area) s table list area e gives-fits
