@@ -10,15 +10,18 @@ use state::Part;
 use state::State;
 ghost use mathlib.Core.Path.{_≡_};
 ghost use mathlib.Core.Bool.{true, false};
+ghost use Prim.Native.Nat.{_+_, _-_, _≤_};
+ghost use mathlib.Core.List.{_++_};
 ghost use lib.Dec.{eqb};
-ghost use lib.ListN.{drop};
+ghost use lib.ListN.{length, drop};
+ghost use lib.Seq.{sets};
 ghost use Rattle.utf8.specs.Chars.{chars};
 ghost use Rattle.token.specs.Kinds.{EOF};
 ghost use Rattle.blanks.specs.Blank.{skip, skippedAt};
 ghost use Rattle.state.specs.Fits.{fits};
-ghost use Rattle.scanner.specs.Steps.{Reads};
+ghost use Rattle.scanner.specs.Steps.{startsFrom, Reads};
 ghost use Rattle.scanner.specs.Simple.{IsTable, simpleAs};
-ghost use Rattle.scanner.specs.Quick.{notDone, Tries, TriesOn};
+ghost use Rattle.scanner.specs.Quick.{notDone, doneWith, endsInFeed, startAfter, Tries, TriesOn};
 
 // Whether a scan is done; if so, the state after it and the token.
 pub(crate) struct Tried {
@@ -57,7 +60,9 @@ fn done(
     mark: bool,
     lines: usize,
     token: Token,
-) -> Tried {
+) -> Tried
+    ensures { λ r. ⌜ r ≡ doneWith state place offset mark lines token ⌝ }
+{
     Tried {
         done: true,
         state: State {
@@ -144,7 +149,10 @@ pub(crate) fn try_simple(
 }
 
 // Has a token no line feed but perhaps its last byte?
-fn ends_in_feed(src: &[u8], x: Lexed) -> bool {
+fn ends_in_feed(src: &[u8], x: Lexed) -> bool
+    requires { ⌜ (x .lfs ≤ x .end) × (x .end ≤ length (now src)) ⌝ }
+    ensures { λ r. ⌜ r ≡ endsInFeed (now (src .entry)) x ⌝ }
+{
     if x.lfs == 0 {
         return true;
     }
@@ -162,7 +170,12 @@ fn record_ends(
     x: Lexed,
     offset: usize,
     table: &mut [usize],
-) {
+)
+    requires { ⌜ (state .place ≤ blanks .end) × (blanks .lfs ≡ length (startsFrom (now src) state (blanks .end - state .place)))
+        × (state .lines + (blanks .lfs + x .lfs) ≤ length (now table)) ⌝ }
+    ensures { λ r. ⌜ now (table .exit) ≡ sets (now (table .entry)) (state .lines)
+        (startsFrom (now (src .entry)) state (blanks .end - state .place) ++ startAfter x offset) ⌝ }
+{
     if blanks.lfs > 0 {
         lines::write_starts(
             src,
