@@ -25,7 +25,7 @@ module _ (src : List ℕ) (start : ℕ) (x : Lexed) where
   said-value e = rw e
 
 -- what is written in two steps
-sets-append : (area : List ℕ) (to : ℕ) (xs ys : List ℕ) → sets area to (xs ++ ys) ≡ sets (sets area to xs) (to + length xs) ys
+pub sets-append : (area : List ℕ) (to : ℕ) (xs ys : List ℕ) → sets area to (xs ++ ys) ≡ sets (sets area to xs) (to + length xs) ys
 sets-append area to [] ys = rw add-zero
 sets-append area to (x ∷ xs) ys =
     let e : suc to + length xs ≡ to + suc (length xs) = omega arith in

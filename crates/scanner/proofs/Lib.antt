@@ -7,3 +7,5 @@ pub mod Fitting
 pub mod Committed
 pub mod Parts
 pub mod Given
+pub mod Ends
+pub mod Tries

@@ -142,7 +142,7 @@ module _ (src : List ℕ) (s : State) (start : ℕ) where
       pub read-bytes : s .place ≤ length src → s .place + read ≤ length src
       read-bytes h = omega (arith, read-bound, chars-le (drop (s .place) src), length-drop (s .place) src)
 
-      token-feeds : x .lfs ≡ count isLf (take (x .chars) (chars (drop start src)))
+      pub token-feeds : x .lfs ≡ count isLf (take (x .chars) (chars (drop start src)))
       unfolding said placed
       token-feeds = rw (← token-len) (ap (λ (p : Placed). p .lfs) e)
 
@@ -158,7 +158,7 @@ module _ (src : List ℕ) (s : State) (start : ℕ) where
             skip-feeds (s .mark) left,
           )
 
-      token-end : x .end ≡ start + widths (take (x .chars) (chars (drop start src)))
+      pub token-end : x .end ≡ start + widths (take (x .chars) (chars (drop start src)))
       unfolding said placed
       token-end = rw (← token-len) (ap (λ (p : Placed). p .end) e)
 
