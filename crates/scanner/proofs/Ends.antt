@@ -29,7 +29,7 @@ use Rattle.state.specs.declared.state.State.{State}
 use Rattle.scanner.specs.Steps.{startsFrom}
 use Rattle.scanner.specs.Quick.{endsInFeed, startAfter}
 use Rattle.scanner.proofs.Areas.{sets-append}
-use Rattle.scanner.proofs.Pass.{skip-feeds, starts-feeds, sets-none, left, skipped, token, read, skipped-is, left-behind, read-bound, token-feeds, token-end}
+use Rattle.scanner.proofs.Pass.{skip-feeds, starts-feeds, left, skipped, token, read, skipped-is, left-behind, read-bound, token-feeds, token-end}
 
 -- ---- the last byte of a character
 -- a character that starts above 127 also ends there

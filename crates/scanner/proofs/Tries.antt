@@ -1,14 +1,14 @@
 -- A token that the lexer read behind the blanks and that is tried at once: what the numbers of the code hold, and that what it leaves is what a scan leaves.
 use Prim.Native.Nat.{ℕ, _+_, _-_, _≤_, _<_, _^_}
 use mathlib.Core.Path.{_≡_, refl, sym, ap, _∙_}
-use mathlib.Core.Bool.{Bool, true, false, true≢false, false≢true}
+use mathlib.Core.Bool.{Bool, true, false, not, _||_, true≢false, false≢true}
 use mathlib.Core.List.{List, _++_}
 use native.Mathlib.Omega.{arith}
 use native.Mathlib.Nat.{add-zero}
-use lib.Dec.{eqb, leb}
+use lib.Dec.{leb}
 use lib.ListN.{length, drop}
 use lib.Seq.{sets}
-use borrow.Author.Tests.{eqb-true, le-leb}
+use borrow.Author.Tests.{eqb-true, leb-false, le-leb}
 use Rattle.utf8.specs.Chars.{chars}
 use Rattle.bodies.specs.Body.{isLf}
 use Rattle.bodies.proofs.Counts.{count-fits}
@@ -17,13 +17,11 @@ use Rattle.errors.specs.Errors.{roomOf}
 use Rattle.blanks.specs.declared.Skipped.{Skipped}
 use Rattle.blanks.specs.Blank.{skip}
 use Rattle.lexer.specs.declared.lexed.Lexed.{Lexed}
-use Rattle.lexer.specs.Placed.{placed, said}
 use Rattle.state.specs.declared.state.State.{State}
 use Rattle.state.specs.Fits.{fileOf, fits}
 use Rattle.scanner.specs.declared.answer.Token.{Token}
 use Rattle.scanner.specs.declared.quick.Tried.{Tried}
-use Rattle.scanner.specs.Scan.{scanOf}
-use Rattle.scanner.specs.Steps.{textLen, valueLen, toWrite, refusalBy, stateBy, tokenBy, isPlain, startsFrom, Reads}
+use Rattle.scanner.specs.Steps.{textLen, valueLen, toWrite, refusalBy, tokenBy, isPlain, startsFrom, Reads}
 use Rattle.scanner.specs.Quick.{notDone, doneWith, endsInFeed, startAfter, Tries}
 use Rattle.scanner.proofs.Pass as pass
 use Rattle.scanner.proofs.Refusals.{refusal-none, list-none}
@@ -34,6 +32,14 @@ use Rattle.scanner.proofs.Ends.{blanks-starts, starts-parted}
 -- what is not done
 pub tries-none : (src : List ℕ) (s : State) (table list : List ℕ) {r : Tried} → r ≡ notDone s → Tries src s table list r table
 tries-none src s table list {r} e = (λ _. refl, λ d. absurd (false≢true (sym (ap (λ (t : Tried). t .done) e) ∙ d)))
+
+-- what passes the first test
+pub passes-first : (x : Lexed) (size offset : ℕ) {t : Bool} → t ≡ isPlain x → not t || leb size offset ≡ false → (isPlain x ≡ true) × (offset < size)
+passes-first x size offset {t} e f = let g = go t (leb size offset) f in (sym e ∙ g .0, leb-false size offset (g .1))
+  where
+    go : (a b : Bool) → not a || b ≡ false → (a ≡ true) × (b ≡ false)
+    go true b f = (refl, f)
+    go false b f = absurd (true≢false f)
 
 -- a state that fits, the blanks at its place and the token behind them
 pub record Known (src : List ℕ) (s : State) (table list : List ℕ) (b : Skipped) (x : Lexed) : Type 0 where
@@ -110,11 +116,12 @@ module _ (src : List ℕ) (s : State) (table list : List ℕ) (b : Skipped) (x :
       pub tries-done : endsInFeed src x ≡ true → {after : List ℕ} {t : Token} {r : Tried} → after ≡ sets table (s .lines) (startsFrom src s (b .end - s .place) ++ startAfter x (s .offset + read))
           → t ≡ tokenBy x (b .end) (s .base + s .offset + (b .end - s .place)) → r ≡ doneWith s (x .end) (s .offset + read) (x .mark) (s .lines + (b .lfs + x .lfs)) t
           → Tries src s table list r after
-      tries-done f {r = r} w t e =
-          (λ d. absurd (true≢false (sym (ap (λ (y : Tried). y .done) e) ∙ d)),
-          λ _ area.
-          scan-gave src s table list area kept (b .end) at x (k .reads .token) (k .holds) (b .lfs + x .lfs) counted (not-refused area)
-          ∙ sym
-          (commit-plain-is src s (b .end) x read (b .lfs + x .lfs) table list area p
-          (w ∙ ap (sets table (s .lines)) (sym (starts-parted src s (b .end) at x (k .reads .token) l f)))
-          (rw (e, t, plain x p .0, add-zero))))
+      tries-done f {r = r} w t e = (
+        λ d. absurd (true≢false (sym (ap (λ (y : Tried). y .done) e) ∙ d)),
+        λ _ area.
+            scan-gave src s table list area kept (b .end) at x (k .reads .token) (k .holds) (b .lfs + x .lfs) counted (not-refused area)
+            ∙ sym
+            (commit-plain-is src s (b .end) x read (b .lfs + x .lfs) table list area p
+            (w ∙ ap (sets table (s .lines)) (sym (starts-parted src s (b .end) at x (k .reads .token) l f)))
+            (rw (e, t, plain x p .0, add-zero))),
+      )

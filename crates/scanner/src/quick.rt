@@ -53,14 +53,7 @@ fn not_done(state: State) -> Tried
 }
 
 // The state after a token that ends at a place and an offset, and the token.
-fn done(
-    state: State,
-    place: usize,
-    offset: usize,
-    mark: bool,
-    lines: usize,
-    token: Token,
-) -> Tried
+fn done(state: State, place: usize, offset: usize, mark: bool, lines: usize, token: Token) -> Tried
     ensures { λ r. ⌜ r ≡ doneWith state place offset mark lines token ⌝ }
 {
     Tried {

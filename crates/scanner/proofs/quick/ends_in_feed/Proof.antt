@@ -1,5 +1,4 @@
 -- `quick::ends_in_feed` meets its contract: its tests are those of the definition.
-use mathlib.Core.Path.{refl}
 use borrow.Author.Needs.{needs}
 use borrow.Author.Tests.{eq-eqb, ne-eqb, lt-ltb, le-ltb}
 use Rattle.scanner.specs.Quick.{endsInFeed}

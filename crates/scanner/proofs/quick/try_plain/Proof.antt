@@ -1,5 +1,5 @@
 -- `quick::try_plain` meets its contract: what passes the tests is committed as a scan commits it.
-use Prim.Native.Nat.{ℕ, _+_, _-_, _≤_, _<_, _^_}
+use Prim.Native.Nat.{_+_, _-_, _<_, _^_}
 use mathlib.Core.Path.{_≡_, sym, _∙_}
 use mathlib.Core.Bool.{true}
 use native.Mathlib.Omega.{arith}
@@ -8,7 +8,7 @@ use borrow.Author.Needs.{needs}
 use borrow.Author.Tests.{not-false}
 use Rattle.scanner.specs.Steps.{isPlain}
 use Rattle.scanner.specs.Quick.{endsInFeed}
-use Rattle.scanner.proofs.Tries.{Known, tries-none, behind, lines-fit, feeds-within, read-fits, offset-fits, feeds-fit, base-fits, position-fits, token-ready, ends-ready, tries-done}
+use Rattle.scanner.proofs.Tries.{passes-first, Known, tries-none, behind, lines-fit, feeds-within, read-fits, offset-fits, feeds-fit, base-fits, position-fits, token-ready, ends-ready, tries-done}
 use Rattle.scanner.proofs.quick.try_plain.Statement.{statement}
 use Rattle.scanner.proofs.quick.try_plain.Tie as tie
 
@@ -42,8 +42,8 @@ plain-before : (c : tie.Else1)
     → let a = c .before .before .before .before .before .before .before .before .before .args in
     (isPlain (a .x) ≡ true) × (a .state .offset + (a .blanks .end - a .state .place + a .x .chars) < a .state .size)
 plain-before c =
-    let z = c .if1 .left in
-    ?
+    let a = c .before .before .before .before .before .before .before .before .before .args in
+    passes-first (a .x) (a .state .size) (a .state .offset + (a .blanks .end - a .state .place + a .x .chars)) (c .before .before .is-plain .ensures) (c .if1 .left)
 
 ends-in-feed-requires : tie.Need-ends-in-feed-requires
 ends-in-feed-requires c κs = feeds-within _ _ _ _ _ _ (known (c .before .before .before .before .before .before .before .before .before))
