@@ -9,3 +9,4 @@ pub mod Parts
 pub mod Given
 pub mod Ends
 pub mod Tries
+pub mod SimpleTokens

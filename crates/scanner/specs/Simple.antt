@@ -1,5 +1,5 @@
 -- Simple tokens, as the code of many scans reads them. No public contract cites this.
-use Prim.Native.Nat.{ℕ, _<_}
+use Prim.Native.Nat.{ℕ, _+_, _<_}
 use mathlib.Core.Path.{_≡_}
 use mathlib.Core.Bool.{Bool, false, cond}
 use mathlib.Core.List.{List}
@@ -12,6 +12,7 @@ use Rattle.words.specs.Word.{isLetter}
 use Rattle.lexer.specs.declared.lexed.Lexed.{Lexed}
 use Rattle.lexer.specs.declared.lexed.Text.the-variants.{Empty, AsRead}
 use Rattle.lexer.specs.declared.lexed.Value.the-variants.{Empty as NoValue}
+use Rattle.lexer.specs.Lexeme.{setsMark}
 use Rattle.lexer.specs.Lex.{lexToken}
 use Rattle.lexer.specs.Placed.{placed, said}
 use Rattle.lexer.specs.Made.{answer}
@@ -39,6 +40,10 @@ IsTable kinds = (length kinds ≡ 256) × ((b : ℕ) → b < 256 → getD kinds 
 -- the lexer's answer for it; only a word that is no keyword has a text
 abbrev pub simpleAs : ℕ → Simple → Lexed
 simpleAs at x = answer (x .kind) at (x .end) (x .inserted) (x .mark) (cond (eqb (x .kind) IDENT) AsRead Empty) NoValue (x .«text_bytes»)
+
+-- a delimiter of a kind, or the semicolon that is inserted before a line feed
+abbrev pub delimiterAs : Bool → ℕ → ℕ → Simple
+delimiterAs lf at kind = record { kind = kind; inserted = lf; mark = setsMark kind; end = cond lf at (at + 1); «text_bytes» = 0 }
 
 -- none, or what the lexer says of the token at a place, whatever the mark is
 abbrev pub SimpleAt : List ℕ → ℕ → Simple → Type 0

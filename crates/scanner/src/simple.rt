@@ -1,8 +1,16 @@
 // Simple tokens: words, delimiters and the semicolon that is inserted before a line feed. The first byte tells them from all others,
 // for a point together with the second. Their text is the source's own bytes.
 ghost use mathlib.Core.Path.{_≡_};
+ghost use mathlib.Core.Bool.{false};
+ghost use Prim.Native.Nat.{_≤_, _<_};
+ghost use lib.Dec.{eqb};
+ghost use lib.ListN.{length, drop, getD};
+ghost use Rattle.utf8.specs.Chars.{chars};
+ghost use Rattle.token.specs.Kinds.{NONE, EOF};
 ghost use Rattle.lexer.specs.Lexeme.{setsMark};
-ghost use Rattle.scanner.specs.Simple.{IsTable, SimpleAt};
+ghost use Rattle.lexer.specs.Words.{lexWord};
+ghost use Rattle.lexer.specs.Placed.{said, placed};
+ghost use Rattle.scanner.specs.Simple.{IsTable, simpleAs, delimiterAs, SimpleAt};
 
 // A simple token: its kind, or NONE; the mark that it leaves, the place after it, and how many bytes its text has.
 pub(crate) struct Simple {
@@ -16,7 +24,7 @@ pub(crate) struct Simple {
 
 // What each first byte tells: the kind of a delimiter, IDENT for a letter, SEMICOLON for a line feed, else ILLEGAL.
 pub(crate) fn first_kinds() -> [u8; 256]
-    ensures { λ r. ⌜ IsTable (now r) ⌝ }
+    ensures { λ r. ⌜ IsTable r ⌝ }
 {
     let mut kinds = [token::ILLEGAL; 256];
     kinds[10] = token::SEMICOLON;
@@ -37,8 +45,10 @@ pub(crate) fn first_kinds() -> [u8; 256]
     kinds
 }
 
-// Is the mark set after a token of this kind? The bits of two numbers tell it, so that nothing is to be foreseen.
+// Is the mark set after a token of this kind? The bits of two numbers tell it, so that nothing is to be foreseen. They tell it of the
+// kinds below 128 alone: kind 129 would have the bit of 65.
 fn sets_mark(kind: u8) -> bool
+    requires { ⌜ kind < 128 ⌝ }
     ensures { λ r. ⌜ r ≡ setsMark kind ⌝ }
 {
     let marks: u64 = if kind < 64 {
@@ -50,7 +60,10 @@ fn sets_mark(kind: u8) -> bool
 }
 
 // The word at a place.
-fn word(src: &[u8], at: usize) -> Simple {
+fn word(src: &[u8], at: usize) -> Simple
+    requires { ⌜ at ≤ length (now src) ⌝ }
+    ensures { λ r. ⌜ (said (now (src .entry)) at (simpleAs at r) ≡ placed (now (src .entry)) at (lexWord (chars (drop at (now (src .entry)))))) × (eqb (r .kind) EOF ≡ false) ⌝ }
+{
     let end = words::word_end(src, at);
     let kind = token::ident_token(&src[at..], end - at);
     Simple {
@@ -63,7 +76,10 @@ fn word(src: &[u8], at: usize) -> Simple {
 }
 
 // The delimiter of a kind at a place, or the semicolon that is inserted there.
-fn delimiter(src: &[u8], at: usize, kind: u8) -> Simple {
+fn delimiter(src: &[u8], at: usize, kind: u8) -> Simple
+    requires { ⌜ (at < length (now src)) × (kind < 128) ⌝ }
+    ensures { λ r. ⌜ r ≡ delimiterAs (eqb (getD (now (src .entry)) at 0) 10) at kind ⌝ }
+{
     let lf = src[at] == 10;
     Simple {
         kind,
@@ -74,7 +90,9 @@ fn delimiter(src: &[u8], at: usize, kind: u8) -> Simple {
     }
 }
 
-fn none(at: usize) -> Simple {
+fn none(at: usize) -> Simple
+    ensures { λ r. ⌜ r .kind ≡ NONE ⌝ }
+{
     Simple {
         kind: token::NONE,
         inserted: false,
