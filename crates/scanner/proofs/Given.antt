@@ -1,21 +1,23 @@
 -- Scans of which n have given their tokens: what the scans that are left add to what is written, at each way to stop and at one token more.
 use Prim.Native.Nat.{ℕ, suc, _+_, _-_, _*_, _/_, _≤_, _<_}
-use mathlib.Core.Path.{_≡_}
+use mathlib.Core.Path.{_≡_, sym, _∙_}
 use mathlib.Core.Bool.{true, false}
 use mathlib.Core.List.{List}
-use native.Mathlib.Nat.{add-zero, zero-add}
+use native.Mathlib.Nat.{add-zero, zero-add, sub-zero}
 use native.Mathlib.Omega.{arith}
 use lib.ListN.{length}
 use lib.Seq.{sets}
 use borrow.Author.Tests.{eq-eqb, ne-eqb}
 use Rattle.state.specs.declared.state.State.{State}
+use Rattle.state.specs.Fits.{fits}
 use Rattle.scanner.specs.declared.answer.Token.{Token}
-use Rattle.scanner.specs.Scan.{After, scanOf}
+use Rattle.scanner.specs.Scan.{After, refusedBy, scanOf}
 use Rattle.scanner.specs.Layout.{tokenWidth, tokenNumbers}
 use Rattle.scanner.specs.Many.{Run, isLast, before, manyOf, tokensNumbers, leftBy, leftAfter}
+use Rattle.scanner.proofs.Scans.{scan-unfit}
 
 -- behind none, they stand at the front
-pub left-first : (tokens : List ℕ) (r : Run) → leftBy tokens r ≡ leftAfter 0 tokens r
+left-first : (tokens : List ℕ) (r : Run) → leftBy tokens r ≡ leftAfter 0 tokens r
 unfolding leftBy
 left-first tokens r = rw zero-add
 
@@ -76,3 +78,18 @@ module _ (room n : ℕ) (src : List ℕ) (s : State) (table list area tokens : L
         ≡ leftAfter (n + 1) (sets tokens (n * tokenWidth) (tokenNumbers (a .answer .token))) (manyOf (room - (n + 1)) src (a .answer .state) (a .table) (a .list) (a .area))
     unfolding manyOf
     left-more z f = rw (more, ← e, eq-eqb _ _ z, f) (left-next n tokens _ _)
+
+-- ---- before the first scan
+module _ (room : ℕ) (src : List ℕ) (s : State) (table list area tokens : List ℕ) where
+  -- all scans are left
+  pub left-start : leftBy tokens (manyOf room src s table list area) ≡ leftAfter 0 tokens (manyOf (room - 0) src s table list area)
+  left-start = rw sub-zero (left-first tokens (manyOf room src s table list area))
+
+  pub no-room : room ≡ 0 → leftBy tokens (manyOf room src s table list area) ≡ record { refusal = 0; state = s; table = table; list = list; area = area; tokens = tokens; count = 0 }
+  no-room z = left-start ∙ left-none room 0 src s table list area tokens (omega arith)
+
+  pub first-unfit : (room ≡ 0 → ⊥) → fits s src table list ≡ false
+      → leftBy tokens (manyOf room src s table list area) ≡ record { refusal = 6; state = s; table = table; list = list; area = area; tokens = tokens; count = 0 }
+  first-unfit some unfit =
+      left-start
+      ∙ left-refused room 0 src s table list area tokens (omega arith) {a = refusedBy 6 s table list area} (sym (scan-unfit src s table list area unfit)) (λ z. omega arith)

@@ -7,6 +7,7 @@ pub mod Fitting
 pub mod Committed
 pub mod Parts
 pub mod Given
+pub mod Runs
 pub mod Ends
 pub mod Tries
 pub mod SimpleTokens

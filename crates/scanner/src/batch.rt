@@ -57,7 +57,7 @@ fn run_simple(
     room: usize,
 ) -> Run
     requires { ⌜ (fits first (now src) (now table) (now list) ≡ true) × IsTable (now kinds) × (from ≤ room) × (room * tokenWidth ≤ length (now tokens)) ⌝ }
-    ensures { λ r. ⌜ (fits (r .state) (now (src .entry)) (now (table .exit)) (now (list .entry)) ≡ true) × (r .count ≤ room)
+    ensures { λ r. ⌜ (fits (r .state) (now (src .entry)) (now (table .exit)) (now (list .entry)) ≡ true) × (from ≤ r .count) × (r .count ≤ room)
         × ((area : List ℕ) → leftAfter from (now (tokens .entry)) (manyOf (room - from) (now (src .entry)) first (now (table .entry)) (now (list .entry)) area)
         ≡ leftAfter (r .count) (now (tokens .exit)) (manyOf (room - r .count) (now (src .entry)) (r .state) (now (table .exit)) (now (list .entry)) area)) ⌝ }
 {

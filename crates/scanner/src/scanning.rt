@@ -275,11 +275,11 @@ pub(crate) fn scan_next(
     let x = lexer::lex_token(src, blanks.end, state.mark);
     let tried = try_plain(src, state, blanks, x, table, list);
     if tried.done {
-        let after = tried.state;
+        let next = tried.state;
         let token = tried.token;
         return Scanned {
             refusal: 0,
-            state: after,
+            state: next,
             token,
         };
     }
