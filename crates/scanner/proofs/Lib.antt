@@ -11,3 +11,6 @@ pub mod Runs
 pub mod Ends
 pub mod Tries
 pub mod SimpleTokens
+pub mod LineStarts
+pub mod Strings
+pub mod SimpleScans
