@@ -20,7 +20,6 @@ use Rattle.utf8.proofs.Places.{place-chars}
 use Rattle.bodies.specs.Body.{isLf, count}
 use Rattle.bodies.proofs.Counts.{count-last, widths-last}
 use Rattle.lines.specs.Starts.{startsRead}
-use Rattle.lines.proofs.Counts.{starts-le}
 use Rattle.lines.proofs.Reading.{starts-append}
 use Rattle.blanks.specs.Blank.{skip}
 use Rattle.lexer.specs.declared.lexed.Lexed.{Lexed}
@@ -29,6 +28,7 @@ use Rattle.state.specs.declared.state.State.{State}
 use Rattle.scanner.specs.Steps.{startsFrom}
 use Rattle.scanner.specs.Quick.{endsInFeed, startAfter}
 use Rattle.scanner.proofs.Areas.{sets-append}
+use Rattle.scanner.proofs.LineStarts.{starts-none}
 use Rattle.scanner.proofs.Pass.{skip-feeds, starts-feeds, left, skipped, token, read, skipped-is, left-behind, read-bound, token-feeds, token-end}
 
 -- ---- the last byte of a character
@@ -90,14 +90,7 @@ module _ (s : List ℕ) (p m : ℕ) (h : m < length (chars (drop p s))) where
       let i : q + (firstChar (drop q s) .width - 1) ≡ q = omega arith in
       ap (λ (c : Char). c .code) (sym last-is ∙ a) ∙ ap (λ j. getD s j 0) (sym (w ∙ i)) ∙ e
 
--- ---- the starts of characters without a line feed, and with one at their end
-no-length : {A : Type 0} (l : List A) → length l ≤ 0 → l ≡ []
-no-length [] h = refl
-no-length (a ∷ l) h = absurd (omega arith)
-
-starts-none : (size o : ℕ) (cs : List Char) → count isLf cs ≡ 0 → startsRead size o cs ≡ []
-starts-none size o cs e = no-length (startsRead size o cs) (omega (arith, starts-le size o cs))
-
+-- ---- the starts of characters with a line feed at their end
 starts-one : (size o : ℕ) (r : List Char) (m : ℕ) → m < length r → count isLf (take (suc m) r) ≡ 1 → getD r m ended .code ≡ 10 → o + suc m < size
     → startsRead size o (take (suc m) r) ≡ (o + suc m) ∷ []
 unfolding startsRead
