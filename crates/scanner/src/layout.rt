@@ -1,20 +1,14 @@
 // A token in ten numbers.
 use crate::answer::Token;
+use state::bit_of;
 ghost use mathlib.Core.Path.{_≡_};
 ghost use Prim.Native.Nat.{_+_, _≤_};
 ghost use lib.ListN.{length};
 ghost use lib.Seq.{sets};
-ghost use Rattle.scanner.specs.Layout.{tokenWidth, bit, tokenNumbers};
-
-// 1 for true.
-fn bit_of(b: bool) -> usize
-    ensures { λ r. ⌜ r ≡ bit b ⌝ }
-{
-    if b { 1 } else { 0 }
-}
+ghost use Rattle.scanner.specs.Layout.{tokenWidth, tokenNumbers, tokenWritten};
 
 // Writes a token to the first numbers of a slice.
-fn put_token(t: Token, n: &mut [usize])
+fn put_numbers(t: Token, n: &mut [usize])
     requires { ⌜ tokenWidth ≤ length (now n) ⌝ }
     ensures { λ r. ⌜ now (n .exit) ≡ sets (now (n .entry)) 0 (tokenNumbers t) ⌝ }
 {
@@ -35,5 +29,18 @@ pub(crate) fn put_token_at(t: Token, n: &mut [usize], to: usize)
     requires { ⌜ to + tokenWidth ≤ length (now n) ⌝ }
     ensures { λ r. ⌜ now (n .exit) ≡ sets (now (n .entry)) to (tokenNumbers t) ⌝ }
 {
-    put_token(t, &mut n[to..]);
+    put_numbers(t, &mut n[to..]);
+}
+
+// The same for any slice: one in which ten numbers do not fit there is left as it is.
+pub fn put_token(t: Token, n: &mut [usize], to: usize)
+    ensures { λ r. ⌜ now (n .exit) ≡ tokenWritten (now (n .entry)) to t ⌝ }
+{
+    if n.len() < Token::NUMBERS {
+        return;
+    }
+    if to > n.len() - Token::NUMBERS {
+        return;
+    }
+    put_token_at(t, n, to);
 }

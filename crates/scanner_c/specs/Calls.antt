@@ -10,11 +10,11 @@ use Rattle.refusal.specs.Outcome.{Outcome, refused, gave}
 use Rattle.position.specs.declared.Position.{Position}
 use Rattle.errors.specs.declared.layout.Error.{Error}
 use Rattle.errors.specs.Layout.{width, numbers}
+use Rattle.state.specs.Layout.{stateWidth, stateIn, stateNumbers}
 use Rattle.state.specs.Opening.{Begun, openOf}
 use Rattle.state.specs.Queries.{positionIn, lineStartIn, errorIn}
 use Rattle.scanner.specs.Scan.{After, scanOf}
 use Rattle.scanner.specs.Layout.{tokenWidth, tokenNumbers}
-use Rattle.scanner_c.specs.Numbers.{stateWidth, stateIn, stateNumbers, noError}
 
 -- what opening leaves in the lent slices, and its refusal or 0
 pub record Opened : Type 0 where
@@ -96,6 +96,9 @@ unfoldable pub lineStartNumbers : List ℕ → List ℕ → ℕ → List ℕ →
 lineStartNumbers state table line answer = asked 1 (λ start. start ∷ []) (lineStartIn (stateIn state) table line) state answer
 
 -- no error at that index: four zeros
+abbrev pub noError : Error
+noError = record { offset = 0; line = 0; column = 0; number = 0 }
+
 abbrev pub errorOr : Option Error → List ℕ
 errorOr (some e) = numbers e
 errorOr none = numbers noError

@@ -2,19 +2,19 @@
 // short for a state or an answer is refused by 6, and nothing is written.
 use crate::layout::ERROR;
 use crate::layout::POSITION;
-use crate::layout::STATE;
 use crate::layout::no_error;
 use crate::layout::put_error;
-use crate::layout::put_state;
-use crate::layout::state_in;
 use errors::Got;
 use position::Answer;
 use position::Located;
 use scanner::Opened;
+use scanner::State;
 use scanner::Token;
+use scanner::put_state;
+use scanner::put_token;
+use scanner::state_in;
 ghost use mathlib.Core.Path.{_≡_};
 ghost use Rattle.scanner_c.specs.Calls.{openNumbers, scanNumbers, positionNumbers, lineStartNumbers, errorNumbers};
-ghost use Rattle.scanner_c.specs.Many.{scanManyNumbers};
 
 // Opens a source: the first state goes to `state`, the number of characters to `answer`; for refusal 1 the place of the bad byte goes there.
 #[no_mangle]
@@ -29,7 +29,7 @@ pub extern "C" fn scanner_open(
     ensures { λ r. ⌜ record { refusal = r; table = now (table .exit); state = now (state .exit); answer = now (answer .exit) }
         ≡ openNumbers (now (src .entry)) base size (now (table .entry)) (now (state .entry)) (now (answer .entry)) ⌝ }
 {
-    if state.len() < STATE {
+    if state.len() < State::NUMBERS {
         return refusal::DOES_NOT_FIT;
     }
     if answer.len() < 1 {
@@ -53,7 +53,7 @@ pub extern "C" fn scanner_open(
     }
 }
 
-// Scans one token: many scans with room for one. A refused scan leaves every slice as it was.
+// Scans one token. A refused scan leaves every slice as it was.
 #[no_mangle]
 pub extern "C" fn scanner_scan(
     src: &[u8],
@@ -66,56 +66,19 @@ pub extern "C" fn scanner_scan(
     ensures { λ r. ⌜ record { refusal = r; state = now (state .exit); table = now (table .exit); list = now (list .exit); area = now (area .exit); token = now (token .exit) }
         ≡ scanNumbers (now (src .entry)) (now (state .entry)) (now (table .entry)) (now (list .entry)) (now (area .entry)) (now (token .entry)) ⌝ }
 {
-    if state.len() < STATE {
+    if state.len() < State::NUMBERS {
         return refusal::DOES_NOT_FIT;
     }
     if token.len() < Token::NUMBERS {
         return refusal::DOES_NOT_FIT;
     }
-    let ran = scanner::scan_many(
-        src,
-        state_in(state),
-        table,
-        list,
-        area,
-        &mut token[..Token::NUMBERS],
-    );
-    if ran.refusal != 0 {
-        return ran.refusal;
+    let scanned = scanner::scan(src, state_in(state), table, list, area);
+    if scanned.refusal != 0 {
+        return scanned.refusal;
     }
-    put_state(ran.state, state);
+    put_state(scanned.state, state);
+    put_token(scanned.token, token, 0);
     0
-}
-
-// Scans token after token, as many as `tokens` has room for, ten numbers each. It stops behind a token that shows something from the text
-// area, since the next scan would write over it, behind EOF, and at a refusal, which it answers; `answer` gets the number of tokens given.
-// State and buffers are those that so many scans leave.
-#[no_mangle]
-pub extern "C" fn scanner_scan_many(
-    src: &[u8],
-    state: &mut [usize],
-    table: &mut [usize],
-    list: &mut [usize],
-    area: &mut [u8],
-    tokens: &mut [usize],
-    answer: &mut [usize],
-) -> u8
-    ensures { λ r. ⌜ record { refusal = r; state = now (state .exit); table = now (table .exit); list = now (list .exit); area = now (area .exit); tokens = now (tokens .exit); answer = now (answer .exit) }
-        ≡ scanManyNumbers (now (src .entry)) (now (state .entry)) (now (table .entry)) (now (list .entry)) (now (area .entry)) (now (tokens .entry)) (now (answer .entry)) ⌝ }
-{
-    if state.len() < STATE {
-        return refusal::DOES_NOT_FIT;
-    }
-    if answer.len() < 1 {
-        return refusal::DOES_NOT_FIT;
-    }
-    let ran = scanner::scan_many(src, state_in(state), table, list, area, tokens);
-    answer[0] = ran.count;
-    if ran.count == 0 {
-        return ran.refusal;
-    }
-    put_state(ran.state, state);
-    ran.refusal
 }
 
 // The offset, line and column of a position.
@@ -128,7 +91,7 @@ pub extern "C" fn scanner_position(
 ) -> u8
     ensures { λ r. ⌜ record { refusal = r; answer = now (answer .exit) } ≡ positionNumbers (now (state .entry)) (now (table .entry)) p (now (answer .entry)) ⌝ }
 {
-    if state.len() < STATE {
+    if state.len() < State::NUMBERS {
         return refusal::DOES_NOT_FIT;
     }
     if answer.len() < POSITION {
@@ -156,7 +119,7 @@ pub extern "C" fn scanner_line_start(
 ) -> u8
     ensures { λ r. ⌜ record { refusal = r; answer = now (answer .exit) } ≡ lineStartNumbers (now (state .entry)) (now (table .entry)) line (now (answer .entry)) ⌝ }
 {
-    if state.len() < STATE {
+    if state.len() < State::NUMBERS {
         return refusal::DOES_NOT_FIT;
     }
     if answer.len() < 1 {
@@ -182,7 +145,7 @@ pub extern "C" fn scanner_error(
 ) -> u8
     ensures { λ r. ⌜ record { refusal = r; answer = now (answer .exit) } ≡ errorNumbers (now (state .entry)) (now (list .entry)) index (now (answer .entry)) ⌝ }
 {
-    if state.len() < STATE {
+    if state.len() < State::NUMBERS {
         return refusal::DOES_NOT_FIT;
     }
     if answer.len() < ERROR {

@@ -7,4 +7,3 @@ pub use calls::scanner_line_start;
 pub use calls::scanner_open;
 pub use calls::scanner_position;
 pub use calls::scanner_scan;
-pub use calls::scanner_scan_many;

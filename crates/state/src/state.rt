@@ -21,6 +21,9 @@ impl State {
     // The longest source in bytes.
     pub const MAX_SOURCE: usize = 1_048_576;
 
+    // How many numbers a state is.
+    pub const NUMBERS: usize = 7;
+
     // The state before the first scan.
     pub fn new(base: usize, size: usize) -> State
         ensures { λ r. ⌜ r ≡ fresh base size ⌝ }

@@ -6,7 +6,7 @@ use lib.ListN.{length}
 use borrow.Author.Needs.{needs}
 use Rattle.errors.specs.Answers.{got}
 use Rattle.state.specs.Queries.{errorIn}
-use Rattle.scanner_c.specs.Numbers.{stateWidth, stateIn}
+use Rattle.state.specs.Layout.{stateWidth, stateIn}
 use Rattle.scanner_c.specs.Calls.{errorNumbers}
 use Rattle.scanner_c.proofs.Lengths.{first-short, second-short, long-enough}
 use Rattle.scanner_c.proofs.calls.scanner_error.Statement.{statement}

@@ -6,7 +6,7 @@ use lib.ListN.{length}
 use borrow.Author.Needs.{needs}
 use Rattle.position.specs.Answers.{outcome}
 use Rattle.state.specs.Queries.{lineStartIn}
-use Rattle.scanner_c.specs.Numbers.{stateWidth, stateIn}
+use Rattle.state.specs.Layout.{stateWidth, stateIn}
 use Rattle.scanner_c.specs.Calls.{lineStartNumbers}
 use Rattle.scanner_c.proofs.Lengths.{first-short, second-short, long-enough}
 use Rattle.scanner_c.proofs.calls.scanner_line_start.Statement.{statement}

@@ -4,7 +4,8 @@ use mathlib.Core.Bool.{false, _||_}
 use lib.Dec.{ltb}
 use lib.ListN.{length}
 use borrow.Author.Needs.{needs}
-use Rattle.scanner_c.specs.Numbers.{stateWidth}
+use borrow.Author.Tests.{le-leb}
+use Rattle.state.specs.Layout.{stateWidth}
 use Rattle.scanner_c.specs.Calls.{openNumbers}
 use Rattle.scanner_c.proofs.Lengths.{first-short, second-short, long-enough}
 use Rattle.scanner_c.proofs.calls.scanner_open.Statement.{statement}
@@ -59,7 +60,7 @@ unfolding openNumbers
 returns-3 c =
     let p = c .before .before in
     let k = p .before .before .before .before .before in
-    rw (p .put-state .ensures, enough k, ← (k .before .before .open .ensures), p .before .before .before .opened .given .1)
+    rw (p .put-state .ensures, le-leb _ _ (k .before .before .before .before .before .if1 .left), enough k, ← (k .before .before .open .ensures), p .before .before .before .opened .given .1)
 
 same-length-4 : tie.Need-same-length-4
 same-length-4 c = search needs

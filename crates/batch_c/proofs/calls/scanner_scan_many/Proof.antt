@@ -4,20 +4,19 @@ use mathlib.Core.Bool.{false, _||_}
 use lib.Dec.{ltb}
 use lib.ListN.{length}
 use borrow.Author.Needs.{needs}
-use borrow.Author.Tests.{eq-eqb, ne-eqb}
-use Rattle.scanner_c.specs.Numbers.{stateWidth}
-use Rattle.scanner_c.specs.Many.{scanManyNumbers}
-use Rattle.scanner_c.proofs.Lengths.{first-short, second-short, long-enough}
-use Rattle.scanner_c.proofs.calls.scanner_scan_many.Statement.{statement}
-use Rattle.scanner_c.proofs.calls.scanner_scan_many.Tie as tie
+use borrow.Author.Tests.{lt-ltb, le-ltb, le-leb, eq-eqb, ne-eqb}
+use Rattle.state.specs.Layout.{stateWidth}
+use Rattle.batch_c.specs.Many.{scanManyNumbers}
+use Rattle.batch_c.proofs.calls.scanner_scan_many.Statement.{statement}
+use Rattle.batch_c.proofs.calls.scanner_scan_many.Tie as tie
 
 returns : tie.Need-returns
 unfolding scanManyNumbers
-returns c = rw (first-short (c .if1 .taken))
+returns c = rw (lt-ltb _ _ (c .if1 .taken))
 
 returns-2 : tie.Need-returns-2
 unfolding scanManyNumbers
-returns-2 c = rw (second-short (c .before .if1 .left) (c .if2 .taken))
+returns-2 c = rw (le-ltb _ _ (c .before .if1 .left), lt-ltb _ _ (c .if2 .taken))
 
 state-in-requires : tie.Need-state-in-requires
 state-in-requires c κs = search needs
@@ -50,7 +49,7 @@ same-length-6 c = search needs
 enough : (c : tie.After-scan-many)
     → let a = c .before .before .before .before .before .before .before .before .before .before .before .before .before .before .before .before .args in
     ltb (length (a .state .now)) stateWidth || ltb (length (a .answer .now)) 1 ≡ false
-enough c = long-enough (c .before .before .before .before .before .before .before .before .if1 .left) (c .before .before .before .before .before .before .before .if2 .left)
+enough c = rw (le-ltb _ _ (c .before .before .before .before .before .before .before .before .if1 .left), le-ltb _ _ (c .before .before .before .before .before .before .before .if2 .left))
 
 returns-3 : tie.Need-returns-3
 unfolding scanManyNumbers
@@ -85,7 +84,7 @@ returns-4 c =
     let p = c .before .before in
     let e = p .before .before in
     let k = e .before .before .before .before .before .before .before .before .before .before in
-    rw (p .put-state .ensures, enough k, ← (k .before .before .before .before .before .state-in .ensures), ← (k .scan-many .ensures), ne-eqb _ _ (e .if3 .left))
+    rw (p .put-state .ensures, le-leb _ _ (k .before .before .before .before .before .before .before .before .if1 .left), enough k, ← (k .before .before .before .before .before .state-in .ensures), ← (k .scan-many .ensures), ne-eqb _ _ (e .if3 .left))
 
 pub scanner-scan-many-spec : {M : Type 1} → statement M
 scanner-scan-many-spec =

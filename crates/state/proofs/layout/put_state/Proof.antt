@@ -2,8 +2,12 @@
 use native.Mathlib.Omega.{arith}
 use lib.ListN.{length-set}
 use borrow.Author.Needs.{needs}
-use Rattle.scanner_c.proofs.layout.put_state.Statement.{statement}
-use Rattle.scanner_c.proofs.layout.put_state.Tie as tie
+use borrow.Author.Tests.{lt-leb, le-leb}
+use Rattle.state.proofs.layout.put_state.Statement.{statement}
+use Rattle.state.proofs.layout.put_state.Tie as tie
+
+returns : tie.Need-returns
+returns c = rw (lt-leb _ _ (c .if1 .taken))
 
 slice-write-n : tie.Need-slice-write-n
 slice-write-n c = search needs
@@ -32,13 +36,14 @@ slice-write-n-7 c = simp length-set (omega arith)
 same-length : tie.Need-same-length
 same-length c = search needs
 
-returns : tie.Need-returns
-returns c = rw (c .bit-of .ensures)
+returns-2 : tie.Need-returns-2
+returns-2 c = rw (c .bit-of .ensures, le-leb _ _ (c .before .if1 .left))
 
 pub put-state-spec : {M : Type 1} → statement M
 put-state-spec =
     tie.close
     (tie.spec
+    returns
     slice-write-n
     slice-write-n-2
     slice-write-n-3
@@ -48,4 +53,4 @@ put-state-spec =
     slice-write-n-6
     slice-write-n-7
     same-length
-    returns)
+    returns-2)
