@@ -1,13 +1,14 @@
 -- `layout::put_state` meets its contract: the writes are the list's, one by one, and the mark's number is its bit.
 use native.Mathlib.Omega.{arith}
-use lib.ListN.{length-set}
+use lib.ListN.{length, length-set}
 use borrow.Author.Needs.{needs}
 use borrow.Author.Tests.{lt-leb, le-leb}
+use Rattle.state.specs.Layout.{stateWidth}
 use Rattle.state.proofs.layout.put_state.Statement.{statement}
 use Rattle.state.proofs.layout.put_state.Tie as tie
 
 returns : tie.Need-returns
-returns c = rw (lt-leb _ _ (c .if1 .taken))
+returns c = rw (lt-leb stateWidth (length (c .before .before .args .n .now)) (omega arith))
 
 slice-write-n : tie.Need-slice-write-n
 slice-write-n c = search needs
