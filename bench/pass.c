@@ -12,37 +12,37 @@ static uint8_t area[2 * (SCANNER_MAX_SOURCE + 1)];
 size_t pass(const uint8_t *src, size_t len, size_t *sum)
 {
     static size_t tokens[256 * SCANNER_TOKEN_LEN];
-    size_t state[SCANNER_STATE_LEN], chars, given, i, kind = SCANNER_KIND_NONE, all = 0;
+    size_t state[SCANNER_STATE_LEN], chars, given, i, kind = SCANNER_KIND_NONE, all = 0, total = 0;
     if (scanner_open(src, len, 0, len, table, LEN(table), state, LEN(state), &chars, 1) != SCANNER_OK)
         return 0;
-    *sum = 0;
     while (kind != SCANNER_KIND_EOF) {
         if (scanner_scan_many(src, len, state, LEN(state), table, LEN(table), list, LEN(list), area, LEN(area),
                               tokens, LEN(tokens), &given, 1) != SCANNER_OK)
             return 0;
         for (i = 0; i < given; i++) {
             const size_t *token = tokens + i * SCANNER_TOKEN_LEN;
-            *sum += token[SCANNER_TOKEN_POSITION] + scanner_text(token, src, area).len;
+            total += token[SCANNER_TOKEN_POSITION] + scanner_text(token, src, area).len;
             kind = token[SCANNER_TOKEN_KIND];
         }
         all += given;
     }
+    *sum = total;
     return all;
 }
 
 size_t pass_by_one(const uint8_t *src, size_t len, size_t *sum)
 {
-    size_t state[SCANNER_STATE_LEN], token[SCANNER_TOKEN_LEN], chars, tokens = 0;
+    size_t state[SCANNER_STATE_LEN], token[SCANNER_TOKEN_LEN], chars, tokens = 0, total = 0;
     if (scanner_open(src, len, 0, len, table, LEN(table), state, LEN(state), &chars, 1) != SCANNER_OK)
         return 0;
-    *sum = 0;
     do {
         if (scanner_scan(src, len, state, LEN(state), table, LEN(table), list, LEN(list), area, LEN(area),
                          token, LEN(token)) != SCANNER_OK)
             return 0;
         tokens++;
-        *sum += token[SCANNER_TOKEN_POSITION] + scanner_text(token, src, area).len;
+        total += token[SCANNER_TOKEN_POSITION] + scanner_text(token, src, area).len;
     } while (token[SCANNER_TOKEN_KIND] != SCANNER_KIND_EOF);
+    *sum = total;
     return tokens;
 }
 
