@@ -1,52 +1,63 @@
--- What the first byte tells, and that a delimiter or a line feed is what the lexer reads.
+-- What the first byte tells, and that an operator, a delimiter or a line feed is what the lexer reads.
 use Prim.Native.Nat.{ℕ, _+_, _≤_, _<_}
 use mathlib.Core.Path.{_≡_, refl, sym, ap, subst, _∙_}
-use mathlib.Core.Bool.{Bool, true, false, cond, not, _||_, _&&_, true≢false}
+use mathlib.Core.Bool.{Bool, true, false, cond, not, _||_, _&&_, true≢false, false≢true}
 use mathlib.Core.List.{List, [], _∷_}
-use mathlib.Core.Logic.{_≢_, inr, ⊎-elim}
+use mathlib.Core.Logic.{_≢_, _⊎_, inl, inr, ⊎-elim}
 use native.Mathlib.Omega.{arith}
 use native.Mathlib.Decide.{decLt}
-use lib.Dec.{eqb, ltb}
+use lib.Dec.{T, eqb, leb, ltb}
 use lib.ListN.{length, getD, drop}
-use borrow.Author.Tests.{ne-eqb, eqb-true, eqb-false, ltb-true, eq-eqb, not-true, not-false}
-use Rattle.basics.proofs.Choice.{either, between-true, below-it, above-it}
+use borrow.Author.Tests.{ne-eqb, eqb-true, eqb-false, ltb-true, leb-true, leb-false, eq-eqb, not-true, not-false}
+use Rattle.basics.specs.Between.{between}
+use Rattle.basics.specs.Same.{same}
+use Rattle.basics.specs.Spelling.{spelled}
+use Rattle.basics.proofs.Choice.{either, cond-ind, and-left, and-right, between-true, below-it, above-it}
 use Rattle.basics.proofs.Every.{every-below}
-use Rattle.basics.proofs.Lists.{reach}
+use Rattle.basics.proofs.Lists.{reach, same-true}
+use Rattle.utf8.specs.declared.Char.{Char}
 use Rattle.utf8.specs.Chars.{chars}
-use Rattle.token.specs.Kinds.{ILLEGAL, EOF, IDENT, LPAREN, LBRACK, LBRACE, COMMA, PERIOD, RPAREN, RBRACK, RBRACE, SEMICOLON, BREAK, VAR}
-use Rattle.token.specs.Table.{operators, identToken}
+use Rattle.token.specs.Kinds.{ILLEGAL, EOF, IDENT, ADD, LPAREN, LBRACK, LBRACE, COMMA, PERIOD, RPAREN, RBRACK, RBRACE, SEMICOLON, COLON, BREAK, VAR}
+use Rattle.token.specs.Table.{Row, operators, identToken}
 use Rattle.token.proofs.Ranges.{true-of}
 use Rattle.token.proofs.Words.{word-kind}
 use Rattle.words.specs.Word.{isLetter}
-use Rattle.operators.specs.Longest.{op, operatorOf}
+use Rattle.operators.specs.declared.Operator.{Operator}
+use Rattle.operators.specs.Longest.{begins, op, longest, operatorOf}
 use Rattle.operators.proofs.Leading.{among}
 use Rattle.operators.proofs.Rows.{row, one-is, period-is}
-use Rattle.lexer.specs.declared.lexed.Text.the-variants.{Empty}
+use Rattle.lexer.specs.declared.lexed.Text.the-variants.{Empty, AsRead}
 use Rattle.lexer.specs.declared.lexed.Value.the-variants.{Empty as NoValue}
 use Rattle.lexer.specs.Lexeme.{setsMark}
 use Rattle.lexer.specs.Words.{lexWord}
 use Rattle.lexer.specs.Lex.{lexOperator, lexBy, lexToken}
-use Rattle.lexer.specs.Made.{madeAt}
+use Rattle.lexer.specs.Made.{answer, madeAt}
 use Rattle.lexer.specs.Placed.{placed, said}
 use Rattle.lexer.proofs.Said.{semicolon-said}
-use Rattle.lexer.proofs.Tokens.{operator-said}
+use Rattle.lexer.proofs.Tokens.{operator-fits, operator-said}
 use Rattle.lexer.proofs.Opened.{open-chars}
 use Rattle.lexer.proofs.Dispatch.{none-of, word-is, feed-is, operator-is}
-use Rattle.scanner.specs.Simple.{firstKind, IsTable, simpleAs, delimiterAs, SimpleAt}
+use Rattle.scanner.specs.Simple.{isOneOf, startsOperator, firstKind, IsTable, simpleAs, delimiterAs, SimpleAt}
 
 -- ---- what a byte tells, by computing each
 -- only a letter tells a word
 pub letter-first : (b : ℕ) → b < 256 → firstKind b ≡ IDENT → isLetter b ≡ true
-unfolding firstKind isLetter
+unfolding firstKind startsOperator isLetter
 letter-first b h e =
     rw (eq-eqb (firstKind b) IDENT e) at (true-of (not (eqb (firstKind b) IDENT) || isLetter b) (every-below (λ x. not (eqb (firstKind x) IDENT) || isLetter x) 256 tt b h))
 
+-- only the first byte of an operator tells one
+pub operator-first : (b : ℕ) → b < 256 → firstKind b ≡ ADD → startsOperator b ≡ true
+unfolding firstKind startsOperator isLetter
+operator-first b h e =
+    rw (eq-eqb (firstKind b) ADD e) at (true-of (not (eqb (firstKind b) ADD) || startsOperator b) (every-below (λ x. not (eqb (firstKind x) ADD) || startsOperator x) 256 tt b h))
+
 pub first-small : (b : ℕ) → b < 256 → firstKind b < 128
-unfolding firstKind isLetter
+unfolding firstKind startsOperator isLetter
 first-small b h = ltb-true (firstKind b) 128 (true-of _ (every-below (λ x. ltb (firstKind x) 128) 256 tt b h))
 
 pub first-known : (b : ℕ) → b < 256 → eqb (firstKind b) EOF ≡ false
-unfolding firstKind isLetter
+unfolding firstKind startsOperator isLetter
 first-known b h = not-true _ (true-of _ (every-below (λ x. not (eqb (firstKind x) EOF)) 256 tt b h))
 
 -- the kind of a word is that of an identifier or a keyword
@@ -54,7 +65,12 @@ pub word-small : (kind : ℕ) (word : List ℕ) → kind ≡ identToken word →
 word-small kind word e =
     ⊎-elim (λ i. omega (arith, e, i)) (λ t. let q = between-true BREAK (identToken word) VAR t in omega (arith, e, q .1)) (word-kind word)
 
--- ---- what holds of each delimiter holds of a byte that tells neither nothing nor a word
+-- a kind other than IDENT has no text
+pub without-text : (kind at end : ℕ) (mark : Bool) → kind ≢ IDENT
+    → answer kind at end false mark (cond (eqb kind IDENT) AsRead Empty) NoValue 0 ≡ madeAt kind at end mark Empty NoValue
+without-text kind at end mark n = ap (λ t. answer kind at end false mark (cond t AsRead Empty) NoValue 0) (ne-eqb kind IDENT n)
+
+-- ---- what holds of each delimiter holds of a byte that tells neither nothing nor a word nor an operator
 one-of : (P : ℕ → Type 0) (b x kind rest : ℕ) → P x → (rest ≢ ILLEGAL → P b) → cond (eqb b x) kind rest ≢ ILLEGAL → P b
 one-of P b x kind rest here more n =
     ⊎-elim (λ (e : eqb b x ≡ true). subst P (sym (eqb-true b x e)) here) (λ (e : eqb b x ≡ false). more (rw e at n)) (either (eqb b x))
@@ -63,10 +79,14 @@ no-letter : (b : ℕ) → firstKind b ≢ IDENT → isLetter b ≡ false
 unfolding firstKind
 no-letter b n = ⊎-elim (λ (e : isLetter b ≡ true). absurd (n (rw e))) (λ e. e) (either (isLetter b))
 
-delimiter-ind : (P : ℕ → Type 0) → P 10 → P 40 → P 41 → P 44 → P 46 → P 59 → P 91 → P 93 → P 123 → P 125
-    → (b : ℕ) → firstKind b ≢ ILLEGAL → firstKind b ≢ IDENT → P b
+no-operator : (b : ℕ) → isLetter b ≡ false → firstKind b ≢ ADD → startsOperator b ≡ false
 unfolding firstKind
-delimiter-ind P feed lparen rparen comma period semicolon lbrack rbrack lbrace rbrace b n i =
+no-operator b l n = ⊎-elim (λ (e : startsOperator b ≡ true). absurd (n (rw (l, e)))) (λ e. e) (either (startsOperator b))
+
+delimiter-ind : (P : ℕ → Type 0) → P 10 → P 40 → P 41 → P 44 → P 46 → P 59 → P 91 → P 93 → P 123 → P 125
+    → (b : ℕ) → firstKind b ≢ ILLEGAL → firstKind b ≢ IDENT → firstKind b ≢ ADD → P b
+unfolding firstKind
+delimiter-ind P feed lparen rparen comma period semicolon lbrack rbrack lbrace rbrace b n i a =
     (one-of P b 10 SEMICOLON _ feed
     (one-of P b 40 LPAREN _ lparen
     (one-of P b 41 RPAREN _ rparen
@@ -77,7 +97,7 @@ delimiter-ind P feed lparen rparen comma period semicolon lbrack rbrack lbrace r
     (one-of P b 93 RBRACK _ rbrack
     (one-of P b 123 LBRACE _ lbrace
     (one-of P b 125 RBRACE _ rbrace (λ z. absurd (z refl))))))))))))
-    (rw (no-letter b i) at n)
+    (rw (no-letter b i, no-operator b (no-letter b i) a) at n)
 
 -- a letter is past the digits and the point
 letter-past : (b : ℕ) → isLetter b ≡ true → 65 ≤ b
@@ -87,6 +107,75 @@ letter-past b t =
       | yes h ↦ absurd (true≢false (sym t ∙ rw (below-it 97 b 122 (omega arith), below-it 65 b 90 (omega arith), ne-eqb b 95 (λ e. omega arith))))
       | no h ↦ omega arith
     ]
+
+-- ---- operators
+-- what holds of each number of a list holds of one of them
+data Each (P : ℕ → Type 0) : List ℕ → Type 0 where
+  none : Each P []
+  also : {k : ℕ} {ks : List ℕ} → P k → Each P ks → Each P (k ∷ ks)
+
+one-ind : (P : ℕ → Type 0) (ks : List ℕ) → Each P ks → (b : ℕ) → isOneOf b ks ≡ true → P b
+one-ind P [] none b t = absurd (false≢true t)
+one-ind P (k ∷ ks) (also here more) b t =
+    ⊎-elim (λ (e : eqb b k ≡ true). subst P (sym (eqb-true b k e)) here) (λ (e : eqb b k ≡ false). one-ind P ks more b (rw e at t)) (either (eqb b k))
+
+-- a row has this spelling
+abbrev spells : List ℕ → List Row → Bool
+spells xs [] = false
+spells xs (row ∷ rows) = same xs (row .name) || spells xs rows
+
+-- the longest is no shorter than a spelling that the characters begin with
+longest-least : (xs : List ℕ) (rows : List Row) (r : List Char) → begins xs r ≡ true → spells xs rows ≡ true → length xs ≤ longest rows r .len
+unfolding longest
+longest-least xs [] r b t = absurd (false≢true t)
+longest-least xs (row ∷ rows) r b t =
+    let P : Operator → Type 0 = λ x. length xs ≤ x .len in
+    let rest = longest rows r in
+    ⊎-elim
+    (λ (e : same xs (row .name) ≡ true).
+    rw (← same-true xs (row .name) e, b)
+    (cond-ind P (leb (rest .len) (length xs)) _ _ (λ _. omega arith) (λ l. omega (arith, leb-false (rest .len) (length xs) l))))
+    (λ (e : same xs (row .name) ≡ false).
+    let ih = longest-least xs rows r b (rw e at t) in
+    cond-ind P (begins (row .name) r) _ _
+    (λ _. cond-ind P (leb (rest .len) (length (row .name))) _ _ (λ l. omega (arith, ih, leb-true (rest .len) (length (row .name)) l)) (λ _. ih)) (λ _. ih))
+    (either (same xs (row .name)))
+
+-- the kinds of the rows are from ADD to COLON
+abbrev allProper : List Row → Bool
+allProper [] = true
+allProper (row ∷ rows) = between ADD (row .kind) COLON && allProper rows
+
+longest-proper : (rows : List Row) (r : List Char) → T (allProper rows) → (longest rows r .len ≡ 0) ⊎ (between ADD (longest rows r .kind) COLON ≡ true)
+unfolding longest
+longest-proper [] r t = inl refl
+longest-proper (row ∷ rows) r t =
+    let P : Operator → Type 0 = λ x. (x .len ≡ 0) ⊎ (between ADD (x .kind) COLON ≡ true) in
+    let here = true-of _ (and-left (between ADD (row .kind) COLON) (allProper rows) t) in
+    let rest = longest-proper rows r (and-right (between ADD (row .kind) COLON) (allProper rows) t) in
+    cond-ind P (begins (row .name) r) _ _
+    (λ _. cond-ind P (leb (longest rows r .len) (length (row .name))) _ _ (λ _. inr here) (λ _. rest)) (λ _. rest)
+
+-- each of those first bytes is an operator by itself, and no other rule reads it
+abbrev ByItself : ℕ → Type 0
+ByItself b = T (ltb 0 b && (ltb b 0x80 && spells (b ∷ []) operators)) × ((mark : Bool) (r : List Char) → lexBy mark b r ≡ lexOperator mark r)
+
+starts : (b : ℕ) → startsOperator b ≡ true → ByItself b
+unfolding startsOperator lexBy isLetter operators same
+starts =
+    one-ind ByItself (spelled "!%&*+-:<=>^|")
+    (also (tt, λ mark r. refl)
+    (also (tt, λ mark r. refl)
+    (also (tt, λ mark r. refl)
+    (also (tt, λ mark r. refl)
+    (also (tt, λ mark r. refl)
+    (also (tt, λ mark r. refl)
+    (also (tt, λ mark r. refl)
+    (also (tt, λ mark r. refl)
+    (also (tt, λ mark r. refl)
+    (also (tt, λ mark r. refl)
+    (also (tt, λ mark r. refl)
+    (also (tt, λ mark r. refl) none))))))))))))
 
 -- ---- the token at a place whose byte is a delimiter
 module _ (s : List ℕ) (at : ℕ) (mark : Bool) where
@@ -124,15 +213,15 @@ module _ (s : List ℕ) (at : ℕ) (mark : Bool) where
       → said s at (simpleAs at (delimiterAs (eqb b 10) at (firstKind b))) ≡ placed s at (lexToken mark (chars (drop at s)))
 
   feed-read : Reads 10
-  unfolding firstKind isLetter
+  unfolding firstKind startsOperator isLetter
   feed-read e p = semicolon-said s at ∙ ap (placed s at) (feed-is mark s at (reach s at (omega (arith, e))) e)
 
   point-read : Reads 46
-  unfolding firstKind isLetter
+  unfolding firstKind startsOperator isLetter
   point-read e p = point (p refl) e
 
-  pub delimiter-read : (b : ℕ) → firstKind b ≢ ILLEGAL → firstKind b ≢ IDENT → Reads b
-  unfolding firstKind isLetter lexBy operators
+  pub delimiter-read : (b : ℕ) → firstKind b ≢ ILLEGAL → firstKind b ≢ IDENT → firstKind b ≢ ADD → Reads b
+  unfolding firstKind startsOperator isLetter lexBy operators
   delimiter-read =
       delimiter-ind Reads feed-read
       (λ e p. alone 40 LPAREN (omega arith) (omega arith) refl (λ z. omega arith) refl e)
@@ -144,6 +233,36 @@ module _ (s : List ℕ) (at : ℕ) (mark : Bool) where
       (λ e p. alone 93 RBRACK (omega arith) (omega arith) refl (λ z. omega arith) refl e)
       (λ e p. alone 123 LBRACE (omega arith) (omega arith) refl (λ z. omega arith) refl e)
       (λ e p. alone 125 RBRACE (omega arith) (omega arith) refl (λ z. omega arith) refl e)
+
+-- ---- the operator at a place
+module _ (s : List ℕ) (at : ℕ) (o : Operator) (is : o ≡ operatorOf (chars (drop at s))) (h : startsOperator (getD s at 0) ≡ true) where
+  -- the byte there
+  first-byte : (0 < getD s at 0) × (getD s at 0 < 0x80) × (spells (getD s at 0 ∷ []) operators ≡ true)
+  first-byte =
+      let b = getD s at 0 in
+      let t = starts b h .0 in
+      let u = and-right (ltb 0 b) _ t in
+      (ltb-true 0 b (true-of _ (and-left (ltb 0 b) _ t)), ltb-true b 0x80 (true-of _ (and-left (ltb b 0x80) _ u)), true-of _ (and-right (ltb b 0x80) _ u))
+
+  begins-there : begins (getD s at 0 ∷ []) (chars (drop at s)) ≡ true
+  unfolding begins
+  begins-there = rw (open-chars s at (getD s at 0) (first-byte .0) (first-byte .1) refl, eq-eqb (getD s at 0) (getD s at 0) refl)
+
+  pub operator-kind : (ADD ≤ o .kind) × (o .kind ≤ COLON)
+  unfolding operators
+  operator-kind =
+      let r = chars (drop at s) in
+      let long = longest-least (getD s at 0 ∷ []) operators r begins-there (first-byte .2) in
+      rw is (⊎-elim (λ e. absurd (omega (arith, e, long))) (λ t. between-true ADD (operatorOf r .kind) COLON t) (longest-proper operators r tt))
+
+  pub operator-within : at + o .len ≤ length s
+  operator-within = operator-fits s at true o is (omega (arith, reach s at (first-byte .0)))
+
+  pub operator-reads : (mark : Bool)
+      → said s at (madeAt (o .kind) at (at + o .len) (setsMark (o .kind)) Empty NoValue) ≡ placed s at (lexToken mark (chars (drop at s)))
+  operator-reads mark =
+      operator-said s at mark o is (λ e. omega (arith, e, operator-kind .0))
+      ∙ ap (placed s at) (sym (by-byte s at mark (getD s at 0) (first-byte .0) (first-byte .1) refl ∙ starts (getD s at 0) h .1 mark (chars (drop at s))))
 
 -- ---- by the table of what each first byte tells
 module _ (kinds s : List ℕ) (at : ℕ) (is : IsTable kinds) (h : at < length s) (small : getD s at 0 < 256) where
@@ -157,18 +276,22 @@ module _ (kinds s : List ℕ) (at : ℕ) (is : IsTable kinds) (h : at < length s
   pub word-told : getD kinds (getD s at 0) 0 ≡ IDENT → (mark : Bool) → lexWord (chars (drop at s)) ≡ lexToken mark (chars (drop at s))
   word-told e mark = word-is mark s at h (letter-first (getD s at 0) small (sym first-is ∙ e))
 
-  -- a delimiter, by the two tests of the code and the byte after it
+  -- the first byte of an operator
+  pub operator-told : getD kinds (getD s at 0) 0 ≡ ADD → startsOperator (getD s at 0) ≡ true
+  operator-told e = operator-first (getD s at 0) small (sym first-is ∙ e)
+
+  -- a delimiter, by the tests of the code and the byte after it
   pub delimiter-told : (second : ℕ) → second ≡ getD s (at + 1) 0 → second < 256
       → eqb (getD kinds (getD s at 0) 0) ILLEGAL || (eqb (getD kinds (getD s at 0) 0) PERIOD && not (eqb (getD kinds second 0) IDENT)) ≡ false
-      → getD kinds (getD s at 0) 0 ≢ IDENT
+      → getD kinds (getD s at 0) 0 ≢ IDENT → getD kinds (getD s at 0) 0 ≢ ADD
       → SimpleAt s at (delimiterAs (eqb (getD s at 0) 10) at (getD kinds (getD s at 0) 0))
-  delimiter-told second next less t i =
+  delimiter-told second next less t i a =
       let first = getD kinds (getD s at 0) 0 in
       let q = none-of (eqb first ILLEGAL) _ t in
       let letter : firstKind (getD s at 0) ≡ PERIOD → isLetter (getD s (at + 1) 0) ≡ true =
       λ e. rw next at (letter-first second less (sym (is .1 second less) ∙ eqb-true _ IDENT (not-false _ (rw (eq-eqb first PERIOD (first-is ∙ e)) at (q .1))))) in
       rw first-is
       (inr (
-        λ mark. delimiter-read s at mark (getD s at 0) (λ e. eqb-false first ILLEGAL (q .0) (first-is ∙ e)) (λ e. i (first-is ∙ e)) refl letter,
+        λ mark. delimiter-read s at mark (getD s at 0) (λ e. eqb-false first ILLEGAL (q .0) (first-is ∙ e)) (λ e. i (first-is ∙ e)) (λ e. a (first-is ∙ e)) refl letter,
         first-known (getD s at 0) small,
       ))

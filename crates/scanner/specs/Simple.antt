@@ -1,13 +1,14 @@
 -- Simple tokens, as the code of many scans reads them. No public contract cites this.
 use Prim.Native.Nat.{ℕ, _+_, _<_}
 use mathlib.Core.Path.{_≡_}
-use mathlib.Core.Bool.{Bool, false, cond}
-use mathlib.Core.List.{List}
+use mathlib.Core.Bool.{Bool, false, cond, _||_}
+use mathlib.Core.List.{List, [], _∷_}
 use mathlib.Core.Logic.{_⊎_}
 use lib.Dec.{eqb}
 use lib.ListN.{length, drop, getD}
+use Rattle.basics.specs.Spelling.{spelled}
 use Rattle.utf8.specs.Chars.{chars}
-use Rattle.token.specs.Kinds.{NONE, ILLEGAL, EOF, IDENT, LPAREN, LBRACK, LBRACE, COMMA, PERIOD, RPAREN, RBRACK, RBRACE, SEMICOLON}
+use Rattle.token.specs.Kinds.{NONE, ILLEGAL, EOF, IDENT, ADD, LPAREN, LBRACK, LBRACE, COMMA, PERIOD, RPAREN, RBRACK, RBRACE, SEMICOLON}
 use Rattle.words.specs.Word.{isLetter}
 use Rattle.lexer.specs.declared.lexed.Lexed.{Lexed}
 use Rattle.lexer.specs.declared.lexed.Text.the-variants.{Empty, AsRead}
@@ -18,10 +19,20 @@ use Rattle.lexer.specs.Placed.{placed, said}
 use Rattle.lexer.specs.Made.{answer}
 use Rattle.scanner.specs.declared.simple.Simple.{Simple}
 
+-- whether a number is one of a list
+abbrev pub isOneOf : ℕ → List ℕ → Bool
+isOneOf b [] = false
+isOneOf b (k ∷ ks) = eqb b k || isOneOf b ks
+
+-- the first bytes of operators, but for a slash, which may start a comment
+unfoldable pub startsOperator : ℕ → Bool
+startsOperator b = isOneOf b (spelled "!%&*+-:<=>^|")
+
 -- what a first byte tells
 unfoldable pub firstKind : ℕ → ℕ
 firstKind b =
     cond (isLetter b) IDENT
+    (cond (startsOperator b) ADD
     (cond (eqb b 10) SEMICOLON
     (cond (eqb b 40) LPAREN
     (cond (eqb b 41) RPAREN
@@ -31,7 +42,7 @@ firstKind b =
     (cond (eqb b 91) LBRACK
     (cond (eqb b 93) RBRACK
     (cond (eqb b 123) LBRACE
-    (cond (eqb b 125) RBRACE ILLEGAL))))))))))
+    (cond (eqb b 125) RBRACE ILLEGAL)))))))))))
 
 -- the table of what each first byte tells
 abbrev pub IsTable : List ℕ → Type 0

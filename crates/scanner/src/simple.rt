@@ -1,7 +1,7 @@
-// Simple tokens: words, delimiters and the semicolon that is inserted before a line feed. The first byte tells them from all others,
-// for a point together with the second. Their text is the source's own bytes.
+// Simple tokens: words, delimiters, operators but those that start with a slash, and the semicolon that is inserted before a line feed.
+// The first byte tells them from all others, for a point together with the second. Their text is the source's own bytes.
 ghost use mathlib.Core.Path.{_≡_};
-ghost use mathlib.Core.Bool.{false};
+ghost use mathlib.Core.Bool.{Bool, true, false};
 ghost use Prim.Native.Nat.{_≤_, _<_};
 ghost use lib.Dec.{eqb};
 ghost use lib.ListN.{length, drop, getD};
@@ -9,8 +9,9 @@ ghost use Rattle.utf8.specs.Chars.{chars};
 ghost use Rattle.token.specs.Kinds.{NONE, EOF};
 ghost use Rattle.lexer.specs.Lexeme.{setsMark};
 ghost use Rattle.lexer.specs.Words.{lexWord};
+ghost use Rattle.lexer.specs.Lex.{lexToken};
 ghost use Rattle.lexer.specs.Placed.{said, placed};
-ghost use Rattle.scanner.specs.Simple.{IsTable, simpleAs, delimiterAs, SimpleAt};
+ghost use Rattle.scanner.specs.Simple.{startsOperator, IsTable, simpleAs, delimiterAs, SimpleAt};
 
 // A simple token: its kind, or NONE; the mark that it leaves, the place after it, and how many bytes its text has.
 pub(crate) struct Simple {
@@ -22,21 +23,33 @@ pub(crate) struct Simple {
     pub(crate) text_bytes: usize,
 }
 
-// What each first byte tells: the kind of a delimiter, IDENT for a letter, SEMICOLON for a line feed, else ILLEGAL.
+// What each first byte tells: the kind of a delimiter, IDENT for a letter, SEMICOLON for a line feed, ADD for an operator, else ILLEGAL.
 pub(crate) fn first_kinds() -> [u8; 256]
     ensures { λ r. ⌜ IsTable r ⌝ }
 {
     let mut kinds = [token::ILLEGAL; 256];
     kinds[10] = token::SEMICOLON;
+    kinds[33] = token::ADD;
+    kinds[37] = token::ADD;
+    kinds[38] = token::ADD;
     kinds[40] = token::LPAREN;
     kinds[41] = token::RPAREN;
+    kinds[42] = token::ADD;
+    kinds[43] = token::ADD;
     kinds[44] = token::COMMA;
+    kinds[45] = token::ADD;
     kinds[46] = token::PERIOD;
+    kinds[58] = token::ADD;
     kinds[59] = token::SEMICOLON;
+    kinds[60] = token::ADD;
+    kinds[61] = token::ADD;
+    kinds[62] = token::ADD;
     kinds[91] = token::LBRACK;
     kinds[93] = token::RBRACK;
+    kinds[94] = token::ADD;
     kinds[95] = token::IDENT;
     kinds[123] = token::LBRACE;
+    kinds[124] = token::ADD;
     kinds[125] = token::RBRACE;
     for b in 65..91usize {
         kinds[b] = token::IDENT;
@@ -72,6 +85,22 @@ fn word(src: &[u8], at: usize) -> Simple
         mark: sets_mark(kind),
         end,
         text_bytes: if kind == token::IDENT { end - at } else { 0 },
+    }
+}
+
+// The operator at a place.
+fn operator(src: &[u8], at: usize) -> Simple
+    requires { ⌜ startsOperator (getD (now src) at 0) ≡ true ⌝ }
+    ensures { λ r. ⌜ ((mark : Bool) → said (now (src .entry)) at (simpleAs at r) ≡ placed (now (src .entry)) at (lexToken mark (chars (drop at (now (src .entry)))))) × (eqb (r .kind) EOF ≡ false) ⌝ }
+{
+    let o = operators::scan_operator(src, at);
+    let kind = o.kind;
+    Simple {
+        kind,
+        inserted: false,
+        mark: sets_mark(kind),
+        end: at + o.len,
+        text_bytes: 0,
     }
 }
 
@@ -116,8 +145,10 @@ pub(crate) fn simple_at(src: &[u8], kinds: &[u8; 256], at: usize) -> Simple
         return none(at);
     }
     if first == token::IDENT {
-        word(src, at)
-    } else {
-        delimiter(src, at, first)
+        return word(src, at);
     }
+    if first == token::ADD {
+        return operator(src, at);
+    }
+    delimiter(src, at, first)
 }

@@ -7,25 +7,27 @@ use lib.Dec.{eqb, eqb→eq}
 use lib.ListN.{getD, set, replicate}
 use borrow.Author.Needs.{needs}
 use Rattle.basics.proofs.Every.{every-entry}
-use Rattle.token.specs.Kinds.{ILLEGAL, IDENT, LPAREN, LBRACK, LBRACE, COMMA, PERIOD, RPAREN, RBRACK, RBRACE, SEMICOLON}
+use Rattle.token.specs.Kinds.{ILLEGAL, IDENT, ADD, LPAREN, LBRACK, LBRACE, COMMA, PERIOD, RPAREN, RBRACK, RBRACE, SEMICOLON}
 use Rattle.words.specs.Word.{isLetter}
-use Rattle.scanner.specs.Simple.{firstKind, IsTable}
+use Rattle.scanner.specs.Simple.{startsOperator, firstKind, IsTable}
 use Rattle.scanner.proofs.simple.first_kinds.Statement.{statement}
 use Rattle.scanner.proofs.simple.first_kinds.Tie as tie
 
 -- the table before the loop
-unfoldable delimiters : List ℕ
-delimiters =
-    let marks = set (set (set (set (set (set (replicate 256 ILLEGAL) 10 SEMICOLON) 40 LPAREN) 41 RPAREN) 44 COMMA) 46 PERIOD) 59 SEMICOLON in
-    set (set (set (set (set marks 91 LBRACK) 93 RBRACK) 95 IDENT) 123 LBRACE) 125 RBRACE
+unfoldable marks : List ℕ
+marks =
+    let to-lparen = set (set (set (set (set (replicate 256 ILLEGAL) 10 SEMICOLON) 33 ADD) 37 ADD) 38 ADD) 40 LPAREN in
+    let to-period = set (set (set (set (set (set to-lparen 41 RPAREN) 42 ADD) 43 ADD) 44 COMMA) 45 ADD) 46 PERIOD in
+    let to-greater = set (set (set (set (set to-period 58 ADD) 59 SEMICOLON) 60 ADD) 61 ADD) 62 ADD in
+    set (set (set (set (set (set (set to-greater 91 LBRACK) 93 RBRACK) 94 ADD) 95 IDENT) 123 LBRACE) 124 ADD) 125 RBRACE
 
 -- with the first n letters, in both cases
 unfoldable lettered : ℕ → List ℕ
-lettered zero = delimiters
+lettered zero = marks
 lettered (suc n) = set (set (lettered n) (65 + n) IDENT) (65 + n + 32) IDENT
 
 table : IsTable (lettered 26)
-unfolding lettered delimiters firstKind isLetter
+unfolding lettered marks firstKind startsOperator isLetter
 table = (refl, λ b h. eqb→eq (getD (lettered 26) b 0) (firstKind b) (every-entry (λ k x. eqb x (firstKind k)) (lettered 26) 0 tt b h))
 
 more : (b : ℕ) → 65 ≤ b → set (set (lettered (b - 65)) b IDENT) (b + 32) IDENT ≡ lettered (b + 1 - 65)
@@ -74,18 +76,54 @@ array-write-kinds-10 c = search needs
 array-write-kinds-11 : tie.Need-array-write-kinds-11 Inv-loop μ-loop
 array-write-kinds-11 c = search needs
 
-loop-holds : tie.Need-loop-holds Inv-loop μ-loop
-unfolding lettered delimiters
-loop-holds c = (search needs, search needs, refl)
-
 array-write-kinds-12 : tie.Need-array-write-kinds-12 Inv-loop μ-loop
 array-write-kinds-12 c = search needs
+
+array-write-kinds-13 : tie.Need-array-write-kinds-13 Inv-loop μ-loop
+array-write-kinds-13 c = search needs
+
+array-write-kinds-14 : tie.Need-array-write-kinds-14 Inv-loop μ-loop
+array-write-kinds-14 c = search needs
+
+array-write-kinds-15 : tie.Need-array-write-kinds-15 Inv-loop μ-loop
+array-write-kinds-15 c = search needs
+
+array-write-kinds-16 : tie.Need-array-write-kinds-16 Inv-loop μ-loop
+array-write-kinds-16 c = search needs
+
+array-write-kinds-17 : tie.Need-array-write-kinds-17 Inv-loop μ-loop
+array-write-kinds-17 c = search needs
+
+array-write-kinds-18 : tie.Need-array-write-kinds-18 Inv-loop μ-loop
+array-write-kinds-18 c = search needs
+
+array-write-kinds-19 : tie.Need-array-write-kinds-19 Inv-loop μ-loop
+array-write-kinds-19 c = search needs
+
+array-write-kinds-20 : tie.Need-array-write-kinds-20 Inv-loop μ-loop
+array-write-kinds-20 c = search needs
+
+array-write-kinds-21 : tie.Need-array-write-kinds-21 Inv-loop μ-loop
+array-write-kinds-21 c = search needs
+
+array-write-kinds-22 : tie.Need-array-write-kinds-22 Inv-loop μ-loop
+array-write-kinds-22 c = search needs
+
+array-write-kinds-23 : tie.Need-array-write-kinds-23 Inv-loop μ-loop
+array-write-kinds-23 c = search needs
+
+loop-holds : tie.Need-loop-holds Inv-loop μ-loop
+unfolding lettered marks
+loop-holds c = (search needs, search needs, refl)
+
+array-write-kinds-24 : tie.Need-array-write-kinds-24 Inv-loop μ-loop
+array-write-kinds-24 c = search needs
 
 add-kinds : tie.Need-add-kinds Inv-loop μ-loop
 add-kinds c = search needs
 
-array-write-kinds-13 : tie.Need-array-write-kinds-13 Inv-loop μ-loop
-array-write-kinds-13 c = search needs
+array-write-kinds-25 : tie.Need-array-write-kinds-25 Inv-loop μ-loop
+array-write-kinds-25 c = search needs
 
 add-b : tie.Need-add-b Inv-loop μ-loop
 add-b c = search needs
@@ -122,10 +160,22 @@ first-kinds-spec =
     array-write-kinds-9
     array-write-kinds-10
     array-write-kinds-11
-    loop-holds
     array-write-kinds-12
-    add-kinds
     array-write-kinds-13
+    array-write-kinds-14
+    array-write-kinds-15
+    array-write-kinds-16
+    array-write-kinds-17
+    array-write-kinds-18
+    array-write-kinds-19
+    array-write-kinds-20
+    array-write-kinds-21
+    array-write-kinds-22
+    array-write-kinds-23
+    loop-holds
+    array-write-kinds-24
+    add-kinds
+    array-write-kinds-25
     add-b
     loop-less
     loop-again

@@ -4,7 +4,7 @@ use mathlib.Core.Path.{ap, _∙_}
 use native.Mathlib.Omega.{arith}
 use borrow.Author.Needs.{needs}
 use Rattle.lexer.specs.Placed.{placed}
-use Rattle.scanner.proofs.SimpleTokens.{told-small, word-told, delimiter-told}
+use Rattle.scanner.proofs.SimpleTokens.{told-small, word-told, operator-told, delimiter-told}
 use Rattle.scanner.proofs.simple.simple_at.Statement.{statement}
 use Rattle.scanner.proofs.simple.simple_at.Tie as tie
 
@@ -44,13 +44,6 @@ returns-2 c = inl (c .none2 .ensures)
 word-requires : tie.Need-word-requires
 word-requires c κs = search needs
 
-delimiter-requires : tie.Need-delimiter-requires
-delimiter-requires c κs =
-    let b = c .before .before .before .before .before in
-    let a = b .before .before .before .args in
-    let h = b .before .if1 .left in
-    (h, told-small (a .kinds .now) (a .src .now) (a .at) (b .before .before .before .pre) h (omega (arith, b .shared-slice-known2 .given (a .at))))
-
 returns-3 : tie.Need-returns-3
 returns-3 c =
     let b = c .before .before .before .before .before .before in
@@ -62,14 +55,30 @@ returns-3 c =
       w .1,
     )
 
-returns-4 : tie.Need-returns-4
-returns-4 c =
+operator-requires : tie.Need-operator-requires
+operator-requires c κs =
     let b = c .before .before .before .before .before .before in
     let a = b .before .before .before .args in
-    let y = c .before .before .before .before .byte in
+    operator-told (a .kinds .now) (a .src .now) (a .at) (b .before .before .before .pre) (b .before .if1 .left) (omega (arith, b .shared-slice-known2 .given (a .at))) (c .if4 .taken)
+
+returns-4 : tie.Need-returns-4
+returns-4 c = inr (c .operator .ensures)
+
+delimiter-requires : tie.Need-delimiter-requires
+delimiter-requires c κs =
+    let b = c .before .before .before .before .before .before in
+    let a = b .before .before .before .args in
+    let h = b .before .if1 .left in
+    (h, told-small (a .kinds .now) (a .src .now) (a .at) (b .before .before .before .pre) h (omega (arith, b .shared-slice-known2 .given (a .at))))
+
+returns-5 : tie.Need-returns-5
+returns-5 c =
+    let b = c .before .before .before .before .before .before .before in
+    let a = b .before .before .before .args in
+    let y = c .before .before .before .before .before .byte in
     rw (c .delimiter .ensures)
     (delimiter-told (a .kinds .now) (a .src .now) (a .at) (b .before .before .before .pre) (b .before .if1 .left) (omega (arith, b .shared-slice-known2 .given (a .at)))
-    (y .result) (y .ensures) (search needs) (c .before .before .if2 .left) (c .before .if3 .left))
+    (y .result) (y .ensures) (search needs) (c .before .before .before .if2 .left) (c .before .before .if3 .left) (c .before .if4 .left))
 
 pub simple-at-spec : {M : Type 1} → statement M
 simple-at-spec =
@@ -87,6 +96,8 @@ simple-at-spec =
     none-requires-2
     returns-2
     word-requires
-    delimiter-requires
     returns-3
-    returns-4)
+    operator-requires
+    returns-4
+    delimiter-requires
+    returns-5)

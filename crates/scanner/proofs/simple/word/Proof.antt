@@ -1,27 +1,15 @@
 -- `scanner::simple::word` meets its contract: an identifier or a keyword.
-use Prim.Native.Nat.{ℕ}
-use mathlib.Core.Path.{_≡_, sym, ap, _∙_}
-use mathlib.Core.Bool.{Bool, false, cond}
-use mathlib.Core.Logic.{_≢_}
-use lib.Dec.{eqb}
+use mathlib.Core.Path.{sym, ap, _∙_}
 use borrow.Author.Tests.{ne-eqb}
 use borrow.Author.Needs.{needs}
-use Rattle.token.specs.Kinds.{EOF, IDENT}
-use Rattle.lexer.specs.declared.lexed.Text.the-variants.{Empty, AsRead}
-use Rattle.lexer.specs.declared.lexed.Value.the-variants.{Empty as NoValue}
+use Rattle.token.specs.Kinds.{EOF}
 use Rattle.lexer.specs.Lexeme.{setsMark}
-use Rattle.lexer.specs.Made.{answer, madeAt}
 use Rattle.lexer.specs.Placed.{said}
 use Rattle.lexer.proofs.Known.{word-known}
 use Rattle.lexer.proofs.Tokens.{identifier-said, keyword-said}
-use Rattle.scanner.proofs.SimpleTokens.{word-small}
+use Rattle.scanner.proofs.SimpleTokens.{word-small, without-text}
 use Rattle.scanner.proofs.simple.word.Statement.{statement}
 use Rattle.scanner.proofs.simple.word.Tie as tie
-
--- a kind other than IDENT has no text
-without-text : (kind at end : ℕ) (mark : Bool) → kind ≢ IDENT
-    → answer kind at end false mark (cond (eqb kind IDENT) AsRead Empty) NoValue 0 ≡ madeAt kind at end mark Empty NoValue
-without-text kind at end mark n = ap (λ t. answer kind at end false mark (cond t AsRead Empty) NoValue 0) (ne-eqb kind IDENT n)
 
 word-end-requires : tie.Need-word-end-requires
 word-end-requires c κs = search needs
