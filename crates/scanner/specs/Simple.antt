@@ -1,23 +1,24 @@
 -- Simple tokens, as the code of many scans reads them. No public contract cites this.
-use Prim.Native.Nat.{ℕ, _+_, _<_}
+use Prim.Native.Nat.{ℕ, _+_, _-_, _<_}
 use mathlib.Core.Path.{_≡_}
-use mathlib.Core.Bool.{Bool, false, cond, _||_}
+use mathlib.Core.Bool.{Bool, true, false, cond, _||_}
 use mathlib.Core.List.{List, [], _∷_}
-use mathlib.Core.Logic.{_⊎_}
 use lib.Dec.{eqb}
 use lib.ListN.{length, drop, getD}
+use lib.Seq.{sets}
 use Rattle.basics.specs.Spelling.{spelled}
 use Rattle.utf8.specs.Chars.{chars}
-use Rattle.token.specs.Kinds.{NONE, ILLEGAL, EOF, IDENT, ADD, LPAREN, LBRACK, LBRACE, COMMA, PERIOD, RPAREN, RBRACK, RBRACE, SEMICOLON}
+use Rattle.token.specs.Kinds.{ILLEGAL, EOF, IDENT, ADD, LPAREN, LBRACK, LBRACE, COMMA, PERIOD, RPAREN, RBRACK, RBRACE, SEMICOLON}
+use Rattle.token.specs.Table.{keywords}
+use Rattle.token.specs.Search.{bySlot, rowIn}
 use Rattle.words.specs.Word.{isLetter}
 use Rattle.lexer.specs.declared.lexed.Lexed.{Lexed}
-use Rattle.lexer.specs.declared.lexed.Text.the-variants.{Empty, AsRead}
-use Rattle.lexer.specs.declared.lexed.Value.the-variants.{Empty as NoValue}
-use Rattle.lexer.specs.Lexeme.{setsMark}
 use Rattle.lexer.specs.Lex.{lexToken}
 use Rattle.lexer.specs.Placed.{placed, said}
-use Rattle.lexer.specs.Made.{answer}
-use Rattle.scanner.specs.declared.simple.Simple.{Simple}
+use Rattle.scanner.specs.declared.answer.Token.{Token}
+use Rattle.scanner.specs.declared.simple.Next.{Next}
+use Rattle.scanner.specs.Layout.{tokenNumbers}
+use Rattle.scanner.specs.Steps.{isPlain, tokenBy}
 
 -- whether a number is one of a list
 abbrev pub isOneOf : ℕ → List ℕ → Bool
@@ -33,7 +34,6 @@ unfoldable pub firstKind : ℕ → ℕ
 firstKind b =
     cond (isLetter b) IDENT
     (cond (startsOperator b) ADD
-    (cond (eqb b 10) SEMICOLON
     (cond (eqb b 40) LPAREN
     (cond (eqb b 41) RPAREN
     (cond (eqb b 44) COMMA
@@ -42,22 +42,47 @@ firstKind b =
     (cond (eqb b 91) LBRACK
     (cond (eqb b 93) RBRACK
     (cond (eqb b 123) LBRACE
-    (cond (eqb b 125) RBRACE ILLEGAL)))))))))))
+    (cond (eqb b 125) RBRACE ILLEGAL))))))))))
 
 -- the table of what each first byte tells
 abbrev pub IsTable : List ℕ → Type 0
 IsTable kinds = (length kinds ≡ 256) × ((b : ℕ) → b < 256 → getD kinds b 0 ≡ firstKind b)
 
--- the lexer's answer for it; only a word that is no keyword has a text
-abbrev pub simpleAs : ℕ → Simple → Lexed
-simpleAs at x = answer (x .kind) at (x .end) (x .inserted) (x .mark) (cond (eqb (x .kind) IDENT) AsRead Empty) NoValue (x .«text_bytes»)
+-- the tables of the keywords of at most eight bytes: their numbers and their kinds, each in its slot
+abbrev pub IsKeywords : List ℕ → List ℕ → Type 0
+IsKeywords numbers kinds = (numbers ≡ bySlot (λ slot. rowIn slot keywords .1)) × (kinds ≡ bySlot (λ slot. rowIn slot keywords .0))
 
--- a delimiter of a kind, or the semicolon that is inserted before a line feed
-abbrev pub delimiterAs : Bool → ℕ → ℕ → Simple
-delimiterAs lf at kind = record { kind = kind; inserted = lf; mark = setsMark kind; end = cond lf at (at + 1); «text_bytes» = 0 }
+-- a token without a value; its text is the source's bytes from its start to an end
+abbrev pub simpleToken : ℕ → Bool → ℕ → ℕ → ℕ → Token
+simpleToken kind inserted position start end =
+    record {
+      kind = kind;
+      inserted = inserted;
+      position = position;
+      code = 0;
+      text = record { area = false; start = start; end = end };
+      value = record { area = false; start = start; end = start };
+    }
 
--- none, or what the lexer says of the token at a place, whatever the mark is
-abbrev pub SimpleAt : List ℕ → ℕ → Simple → Type 0
-SimpleAt src at x =
-    (x .kind ≡ NONE)
-    ⊎ (((mark : Bool) → said src at (simpleAs at x) ≡ placed src at (lexToken mark (chars (drop at src)))) × (eqb (x .kind) EOF ≡ false))
+-- a word of a kind, from a place to another
+abbrev pub wordOf : ℕ → ℕ → ℕ → ℕ → Token
+wordOf kind position at end = simpleToken kind false position at (cond (eqb kind IDENT) end at)
+
+-- what was given is what the lexer says of the token at a place, whatever the mark is: a plain token of ASCII characters, no line feed
+-- among them, that ends at most sixteen bytes behind the safe place
+pub record Gave (src : List ℕ) (at safe position : ℕ) (tokens : List ℕ) (to : ℕ) (r : Next) (tokens′ : List ℕ) : Type 0 where
+  pub x : Lexed
+  pub reads : (mark : Bool) → said src at x ≡ placed src at (lexToken mark (chars (drop at src)))
+  pub plain : isPlain x ≡ true
+  pub ascii : x .chars ≡ x .end - at
+  pub feeds : x .lfs ≡ 0
+  pub known : eqb (x .kind) EOF ≡ false
+  pub near : x .end < safe + 16
+  pub place : r .place ≡ x .end
+  pub mark : r .mark ≡ x .mark
+  pub written : tokens′ ≡ sets tokens to (tokenNumbers (tokenBy x at position))
+
+-- where none is found, nothing is written
+abbrev pub Gives : List ℕ → ℕ → ℕ → ℕ → List ℕ → ℕ → Next → List ℕ → Type 0
+Gives src at safe position tokens to r tokens′ =
+    (r .found ≡ false → tokens′ ≡ tokens) × (r .found ≡ true → Gave src at safe position tokens to r tokens′)

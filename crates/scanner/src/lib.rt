@@ -2,6 +2,7 @@
 mod answer;
 mod batch;
 mod layout;
+mod near;
 mod quick;
 mod scanning;
 mod simple;

@@ -2,8 +2,6 @@
 use crate::answer::Token;
 use crate::answer::plain_token;
 use crate::scanning::is_plain;
-use crate::simple::Simple;
-use crate::simple::simple_at;
 use blanks::Skipped;
 use lexer::Lexed;
 use state::Part;
@@ -69,76 +67,6 @@ fn done(state: State, place: usize, offset: usize, mark: bool, lines: usize, tok
         },
         token,
     }
-}
-
-// Gives a simple token behind blanks with at most one line feed.
-fn give_simple(
-    src: &[u8],
-    state: State,
-    blanks: Skipped,
-    x: Simple,
-    table: &mut [usize],
-    list: &[usize],
-) -> Tried
-    requires { ⌜ (fits state (now src) (now table) (now list) ≡ true) × Reads (now src) state blanks (simpleAs (blanks .end) x) × (eqb (x .kind) EOF ≡ false) ⌝ }
-    ensures { λ r. ⌜ TriesOn (now (src .entry)) state (now (table .entry)) (now (list .entry)) r (now (table .exit)) ⌝ }
-{
-    let start = blanks.end;
-    let offset = state.offset + (x.end - state.place);
-    if state.size <= offset {
-        return not_done(state);
-    }
-    let lines = state.lines;
-    if blanks.lfs > 0 {
-        if (blanks.lfs > 1) | (table.len() <= lines) {
-            return not_done(state);
-        }
-        table[lines] = state.offset + (blanks.line - state.place);
-    }
-    let token = Token {
-        kind: x.kind,
-        inserted: x.inserted,
-        position: state.base + state.offset + (start - state.place),
-        code: 0,
-        text: Part {
-            area: false,
-            start,
-            end: start + x.text_bytes,
-        },
-        value: Part {
-            area: false,
-            start,
-            end: start,
-        },
-    };
-    done(
-        state,
-        x.end,
-        offset,
-        x.mark,
-        state.lines + blanks.lfs,
-        token,
-    )
-}
-
-// Tries a simple token behind the blanks.
-pub(crate) fn try_simple(
-    src: &[u8],
-    kinds: &[u8; 256],
-    state: State,
-    blanks: Skipped,
-    table: &mut [usize],
-    list: &[usize],
-) -> Tried
-    requires { ⌜ (fits state (now src) (now table) (now list) ≡ true) × IsTable (now kinds)
-        × (blanks ≡ skippedAt (state .place) (skip (state .mark) (chars (drop (state .place) (now src))))) ⌝ }
-    ensures { λ r. ⌜ TriesOn (now (src .entry)) state (now (table .entry)) (now (list .entry)) r (now (table .exit)) ⌝ }
-{
-    let x = simple_at(src, kinds, blanks.end);
-    if x.kind == token::NONE {
-        return not_done(state);
-    }
-    give_simple(src, state, blanks, x, table, list)
 }
 
 // Has a token no line feed but perhaps its last byte?

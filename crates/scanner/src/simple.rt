@@ -1,34 +1,33 @@
 // Simple tokens: words, delimiters, operators but those that start with a slash, and the semicolon that is inserted before a line feed.
 // The first byte tells them from all others, for a point together with the second. Their text is the source's own bytes.
+use state::bit_of;
 ghost use mathlib.Core.Path.{_≡_};
-ghost use mathlib.Core.Bool.{Bool, true, false};
-ghost use Prim.Native.Nat.{_≤_, _<_};
-ghost use lib.Dec.{eqb};
+ghost use mathlib.Core.Bool.{false, true};
+ghost use mathlib.Core.Logic.{_≢_};
+ghost use Prim.Native.Nat.{_+_, _≤_, _<_, _^_};
 ghost use lib.ListN.{length, drop, getD};
+ghost use lib.Seq.{sets};
 ghost use Rattle.utf8.specs.Chars.{chars};
-ghost use Rattle.token.specs.Kinds.{NONE, EOF};
+ghost use Rattle.token.specs.Kinds.{IDENT, LPAREN};
+ghost use Rattle.token.specs.Table.{identToken};
+ghost use Rattle.words.specs.Word.{isLetter, wordLen};
 ghost use Rattle.lexer.specs.Lexeme.{setsMark};
-ghost use Rattle.lexer.specs.Words.{lexWord};
-ghost use Rattle.lexer.specs.Lex.{lexToken};
-ghost use Rattle.lexer.specs.Placed.{said, placed};
-ghost use Rattle.scanner.specs.Simple.{startsOperator, IsTable, simpleAs, delimiterAs, SimpleAt};
+ghost use Rattle.state.specs.Layout.{bit};
+ghost use Rattle.scanner.specs.Layout.{tokenWidth, tokenNumbers};
+ghost use Rattle.scanner.specs.Simple.{firstKind, startsOperator, IsTable, IsKeywords, simpleToken, wordOf, Gives};
 
-// A simple token: its kind, or NONE; the mark that it leaves, the place after it, and how many bytes its text has.
-pub(crate) struct Simple {
-    pub(crate) kind: u8,
-    // a semicolon that does not stand in the text
-    pub(crate) inserted: bool,
+// What comes of a simple token: whether it is found, the place after it, and the mark that it leaves.
+pub(crate) struct Next {
+    pub(crate) found: bool,
+    pub(crate) place: usize,
     pub(crate) mark: bool,
-    pub(crate) end: usize,
-    pub(crate) text_bytes: usize,
 }
 
-// What each first byte tells: the kind of a delimiter, IDENT for a letter, SEMICOLON for a line feed, ADD for an operator, else ILLEGAL.
+// What each first byte tells: the kind of a delimiter, IDENT for a letter, ADD for an operator, else ILLEGAL.
 pub(crate) fn first_kinds() -> [u8; 256]
     ensures { λ r. ⌜ IsTable r ⌝ }
 {
     let mut kinds = [token::ILLEGAL; 256];
-    kinds[10] = token::SEMICOLON;
     kinds[33] = token::ADD;
     kinds[37] = token::ADD;
     kinds[38] = token::ADD;
@@ -72,83 +71,206 @@ fn sets_mark(kind: u8) -> bool
     (marks >> (kind % 64)) & 1 == 1
 }
 
-// The word at a place.
-fn word(src: &[u8], at: usize) -> Simple
-    requires { ⌜ at ≤ length (now src) ⌝ }
-    ensures { λ r. ⌜ (said (now (src .entry)) at (simpleAs at r) ≡ placed (now (src .entry)) at (lexWord (chars (drop at (now (src .entry)))))) × (eqb (r .kind) EOF ≡ false) ⌝ }
+fn none(at: usize) -> Next
+    ensures { λ r. ⌜ r .found ≡ false ⌝ }
 {
-    let end = words::word_end(src, at);
-    let kind = token::ident_token(&src[at..], end - at);
-    Simple {
-        kind,
-        inserted: false,
-        mark: sets_mark(kind),
-        end,
-        text_bytes: if kind == token::IDENT { end - at } else { 0 },
+    Next {
+        found: false,
+        place: at,
+        mark: false,
     }
 }
 
-// The operator at a place.
-fn operator(src: &[u8], at: usize) -> Simple
-    requires { ⌜ startsOperator (getD (now src) at 0) ≡ true ⌝ }
-    ensures { λ r. ⌜ ((mark : Bool) → said (now (src .entry)) at (simpleAs at r) ≡ placed (now (src .entry)) at (lexToken mark (chars (drop at (now (src .entry)))))) × (eqb (r .kind) EOF ≡ false) ⌝ }
+// Writes a token without a value to the numbers from an index on; its text is the source's bytes from its start to an end.
+fn put_shown(
+    kind: u8,
+    inserted: bool,
+    position: usize,
+    start: usize,
+    end: usize,
+    tokens: &mut [usize],
+    to: usize,
+)
+    requires { ⌜ to + tokenWidth ≤ length (now tokens) ⌝ }
+    ensures { λ r. ⌜ now (tokens .exit) ≡ sets (now (tokens .entry)) to (tokenNumbers (simpleToken kind inserted position start end)) ⌝ }
+{
+    tokens[to] = kind as usize;
+    tokens[to + 1] = bit_of(inserted);
+    tokens[to + 2] = position;
+    tokens[to + 3] = 0;
+    tokens[to + 4] = 0;
+    tokens[to + 5] = start;
+    tokens[to + 6] = end;
+    tokens[to + 7] = 0;
+    tokens[to + 8] = start;
+    tokens[to + 9] = start;
+}
+
+// Gives the word of a kind; only an identifier has a text.
+fn give_word(
+    kind: u8,
+    at: usize,
+    end: usize,
+    position: usize,
+    tokens: &mut [usize],
+    to: usize,
+) -> Next
+    requires { ⌜ (kind < 128) × (to + tokenWidth ≤ length (now tokens)) ⌝ }
+    ensures { λ r. ⌜ (r ≡ record { found = true; place = end; mark = setsMark kind })
+        × (now (tokens .exit) ≡ sets (now (tokens .entry)) to (tokenNumbers (wordOf kind position at end))) ⌝ }
+{
+    let text_end = if kind == token::IDENT { end } else { at };
+    put_shown(kind, false, position, at, text_end, tokens, to);
+    Next {
+        found: true,
+        place: end,
+        mark: sets_mark(kind),
+    }
+}
+
+// Gives the word at a place, of whatever length.
+fn long_word(
+    src: &[u8],
+    at: usize,
+    safe: usize,
+    position: usize,
+    tokens: &mut [usize],
+    to: usize,
+) -> Next
+    requires { ⌜ (at ≤ length (now src)) × (isLetter (getD (now src) at 0) ≡ true) × (to + tokenWidth ≤ length (now tokens)) ⌝ }
+    ensures { λ r. ⌜ Gives (now (src .entry)) at safe position (now (tokens .entry)) to r (now (tokens .exit)) ⌝ }
+{
+    let end = words::word_end(src, at);
+    if safe <= end {
+        return none(at);
+    }
+    let kind = token::ident_token(&src[at..], end - at);
+    give_word(kind, at, end, position, tokens, to)
+}
+
+// Gives the word at a place; one of fewer than eight bytes is searched among the keywords as a number.
+fn word(
+    src: &[u8],
+    numbers: &[u64; 64],
+    kinds: &[u8; 64],
+    at: usize,
+    safe: usize,
+    position: usize,
+    tokens: &mut [usize],
+    to: usize,
+) -> Next
+    requires { ⌜ IsKeywords (now numbers) (now kinds) × (at < safe) × (safe ≤ length (now src)) × (isLetter (getD (now src) at 0) ≡ true)
+        × (to + tokenWidth ≤ length (now tokens)) ⌝ }
+    ensures { λ r. ⌜ Gives (now (src .entry)) at safe position (now (tokens .entry)) to r (now (tokens .exit)) ⌝ }
+{
+    let run = words::near_run(src, at);
+    let n = run.len;
+    if n == 8 {
+        return long_word(src, at, safe, position, tokens, to);
+    }
+    let kind = token::kind_in(numbers, kinds, run.number, n);
+    give_word(kind, at, at + n, position, tokens, to)
+}
+
+// Gives the operator at a place.
+fn operator(
+    src: &[u8],
+    at: usize,
+    safe: usize,
+    position: usize,
+    tokens: &mut [usize],
+    to: usize,
+) -> Next
+    requires { ⌜ (at < safe) × (safe ≤ length (now src)) × (startsOperator (getD (now src) at 0) ≡ true) × (to + tokenWidth ≤ length (now tokens)) ⌝ }
+    ensures { λ r. ⌜ Gives (now (src .entry)) at safe position (now (tokens .entry)) to r (now (tokens .exit)) ⌝ }
 {
     let o = operators::scan_operator(src, at);
     let kind = o.kind;
-    Simple {
-        kind,
-        inserted: false,
+    put_shown(kind, false, position, at, at, tokens, to);
+    Next {
+        found: true,
+        place: at + o.len,
         mark: sets_mark(kind),
-        end: at + o.len,
-        text_bytes: 0,
     }
 }
 
-// The delimiter of a kind at a place, or the semicolon that is inserted there.
-fn delimiter(src: &[u8], at: usize, kind: u8) -> Simple
-    requires { ⌜ (at < length (now src)) × (kind < 128) ⌝ }
-    ensures { λ r. ⌜ r ≡ delimiterAs (eqb (getD (now (src .entry)) at 0) 10) at kind ⌝ }
+// Gives the delimiter of a kind at a place; a point is one before a letter.
+fn delimiter(
+    src: &[u8],
+    firsts: &[u8; 256],
+    at: usize,
+    safe: usize,
+    kind: u8,
+    position: usize,
+    tokens: &mut [usize],
+    to: usize,
+) -> Next
+    requires { ⌜ IsTable (now firsts) × (at < safe) × (safe < length (now src)) × (kind ≡ firstKind (getD (now src) at 0)) × (LPAREN ≤ kind)
+        × (to + tokenWidth ≤ length (now tokens)) ⌝ }
+    ensures { λ r. ⌜ Gives (now (src .entry)) at safe position (now (tokens .entry)) to r (now (tokens .exit)) ⌝ }
 {
-    let lf = src[at] == 10;
-    Simple {
-        kind,
-        inserted: lf,
+    if kind == token::PERIOD {
+        if firsts[src[at + 1] as usize] != token::IDENT {
+            return none(at);
+        }
+    }
+    put_shown(kind, false, position, at, at, tokens, to);
+    Next {
+        found: true,
+        place: at + 1,
         mark: sets_mark(kind),
-        end: if lf { at } else { at + 1 },
-        text_bytes: 0,
     }
 }
 
-fn none(at: usize) -> Simple
-    ensures { λ r. ⌜ r .kind ≡ NONE ⌝ }
+// Gives the semicolon that is inserted before a line feed.
+fn semicolon(
+    src: &[u8],
+    at: usize,
+    safe: usize,
+    position: usize,
+    tokens: &mut [usize],
+    to: usize,
+) -> Next
+    requires { ⌜ (at < safe) × (getD (now src) at 0 ≡ 10) × (to + tokenWidth ≤ length (now tokens)) ⌝ }
+    ensures { λ r. ⌜ Gives (now (src .entry)) at safe position (now (tokens .entry)) to r (now (tokens .exit)) ⌝ }
 {
-    Simple {
-        kind: token::NONE,
-        inserted: false,
+    put_shown(token::SEMICOLON, true, position, at, at, tokens, to);
+    Next {
+        found: true,
+        place: at,
         mark: false,
-        end: at,
-        text_bytes: 0,
     }
 }
 
-// The simple token at a place, or NONE.
-pub(crate) fn simple_at(src: &[u8], kinds: &[u8; 256], at: usize) -> Simple
-    requires { ⌜ IsTable (now kinds) ⌝ }
-    ensures { λ r. ⌜ SimpleAt (now (src .entry)) at r ⌝ }
+// Gives the simple token at a place before which it is safe to read on, if there is one: it is written to the numbers from an index on.
+// Each kind is written by itself, so that what it leaves empty takes no time.
+pub(crate) fn give_simple(
+    src: &[u8],
+    firsts: &[u8; 256],
+    numbers: &[u64; 64],
+    kinds: &[u8; 64],
+    at: usize,
+    safe: usize,
+    position: usize,
+    tokens: &mut [usize],
+    to: usize,
+) -> Next
+    requires { ⌜ IsTable (now firsts) × IsKeywords (now numbers) (now kinds) × (at < safe) × (safe < length (now src)) × (to + tokenWidth ≤ length (now tokens)) ⌝ }
+    ensures { λ r. ⌜ Gives (now (src .entry)) at safe position (now (tokens .entry)) to r (now (tokens .exit)) ⌝ }
 {
-    if src.len() <= at {
-        return none(at);
-    }
-    let first = kinds[src[at] as usize];
-    let second = kinds[utf8::byte(src, at + 1) as usize];
-    if (first == token::ILLEGAL) | ((first == token::PERIOD) & (second != token::IDENT)) {
-        return none(at);
-    }
+    let b = src[at];
+    let first = firsts[b as usize];
     if first == token::IDENT {
-        return word(src, at);
+        return word(src, numbers, kinds, at, safe, position, tokens, to);
+    }
+    if first >= token::LPAREN {
+        return delimiter(src, firsts, at, safe, first, position, tokens, to);
+    }
+    if b == 10 {
+        return semicolon(src, at, safe, position, tokens, to);
     }
     if first == token::ADD {
-        return operator(src, at);
+        return operator(src, at, safe, position, tokens, to);
     }
-    delimiter(src, at, first)
+    none(at)
 }

@@ -1,9 +1,9 @@
--- What the private functions of the keyword search give. No public contract cites these.
-use Prim.Native.Nat.{ℕ, _+_, _*_, _/_, _%_}
+-- What the functions of the keyword search give.
+use Prim.Native.Nat.{ℕ, zero, suc, _+_, _*_, _/_, _%_}
 use mathlib.Core.Bool.{cond, _&&_}
 use mathlib.Core.List.{List, [], _∷_}
 use lib.Dec.{eqb, leb}
-use lib.ListN.{length}
+use lib.ListN.{length, getD}
 use Rattle.lanes.specs.Lanes.{numberOf}
 use Rattle.token.specs.Kinds.{IDENT}
 use Rattle.token.specs.Table as Table
@@ -25,3 +25,15 @@ pair kind number = record { 0 = kind; 1 = number }
 unfoldable pub rowIn : ℕ → List Table.Row → Row
 rowIn slot [] = pair IDENT 0
 rowIn slot (k ∷ ks) = cond (leb (length (k .name)) 8 && eqb slot (slotOfWord (k .name))) (pair (k .kind) (numberOf (k .name))) (rowIn slot ks)
+
+-- what each of the 64 slots has
+abbrev slotsFrom : (ℕ → ℕ) → ℕ → ℕ → List ℕ
+slotsFrom f slot zero = []
+slotsFrom f slot (suc n) = f slot ∷ slotsFrom f (suc slot) n
+
+unfoldable pub bySlot : (ℕ → ℕ) → List ℕ
+bySlot f = slotsFrom f 0 64
+
+-- the kind that tables by slots give to a number of n bytes
+abbrev pub kindIn : List ℕ → List ℕ → ℕ → ℕ → ℕ
+kindIn numbers kinds number n = cond (eqb (getD numbers (slotOf number n) 0) number) (getD kinds (slotOf number n) 0) IDENT

@@ -6,7 +6,7 @@ ghost use lib.ListN.{length, take};
 ghost use Rattle.basics.specs.Same.{same};
 ghost use Rattle.lanes.specs.Lanes.{numberOf};
 ghost use Rattle.token.specs.Table.{identToken, keywords};
-ghost use Rattle.token.specs.Search.{slotOf, rowIn};
+ghost use Rattle.token.specs.Search.{slotOf, rowIn, bySlot, kindIn};
 
 // Whether two byte strings are the same.
 fn is_same(a: &[u8], b: &[u8]) -> bool
@@ -127,4 +127,38 @@ pub fn ident_token(text: &[u8], len: usize) -> u8
     let number = number_of(text, n);
     let row = row_in(slot_of(number, n));
     if row.1 == number { row.0 } else { IDENT }
+}
+
+// The keywords of at most eight bytes as numbers, each in its slot; 0 where there is none. A loop over many words has these tables made
+// once, and does without a call.
+pub fn keyword_numbers() -> [u64; 64]
+    ensures { λ r. ⌜ r ≡ bySlot (λ slot. rowIn slot keywords .1) ⌝ }
+{
+    let mut numbers = [0u64; 64];
+    for slot in 0..64usize {
+        let row = row_in(slot as u64);
+        numbers[slot] = row.1;
+    }
+    numbers
+}
+
+// Their kinds, each in its slot; IDENT where there is none.
+pub fn keyword_kinds() -> [u8; 64]
+    ensures { λ r. ⌜ r ≡ bySlot (λ slot. rowIn slot keywords .0) ⌝ }
+{
+    let mut kinds = [IDENT; 64];
+    for slot in 0..64usize {
+        let row = row_in(slot as u64);
+        kinds[slot] = row.0;
+    }
+    kinds
+}
+
+// The kind of a word of n bytes by two such tables and the number that the word is.
+pub fn kind_in(numbers: &[u64; 64], kinds: &[u8; 64], number: u64, n: usize) -> u8
+    ensures { λ r. ⌜ r ≡ kindIn (now (numbers .entry)) (now (kinds .entry)) number n ⌝ }
+{
+    let slot = (n % 64 + (number % 256 * 8 + number / 256 % 256 * 59) as usize) % 64;
+    let kind = kinds[slot];
+    if numbers[slot] == number { kind } else { IDENT }
 }

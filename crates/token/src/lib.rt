@@ -8,6 +8,9 @@ pub use class::is_literal;
 pub use class::is_operator;
 pub use class::precedence;
 pub use keyword::ident_token;
+pub use keyword::keyword_kinds;
+pub use keyword::keyword_numbers;
+pub use keyword::kind_in;
 pub use names::Padded;
 pub use names::name;
 

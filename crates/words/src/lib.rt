@@ -6,6 +6,7 @@ ghost use Rattle.lanes.specs.Lanes.{lanes};
 ghost use Rattle.utf8.specs.Chars.{chars};
 ghost use Rattle.words.specs.Word.{isLetter, wordLen};
 ghost use Rattle.words.specs.Marks.{other};
+ghost use Rattle.words.specs.Near.{nearRun};
 
 pub fn is_letter(b: u8) -> bool
     ensures { λ r. ⌜ r ≡ isLetter b ⌝ }
@@ -58,4 +59,28 @@ pub fn word_end(src: &[u8], at: usize) -> usize
         p += 8;
     }
     p + run_at(src, p)
+}
+
+// The run of letters and digits at a place, as far as eight bytes go: its length, and the number that its bytes are.
+pub struct Near {
+    pub len: usize,
+    pub number: u64,
+}
+
+pub fn near_run(src: &[u8], at: usize) -> Near
+    ensures { λ r. ⌜ r ≡ nearRun (now (src .entry)) at ⌝ }
+{
+    let bytes = lanes::eight(src, at);
+    let marks = others(bytes);
+    if marks == 0 {
+        return Near {
+            len: 8,
+            number: bytes,
+        };
+    }
+    let len = u64::trailing_zeros(marks) as usize / 8;
+    Near {
+        len,
+        number: bytes % (1u64 << (8 * len)),
+    }
 }
