@@ -123,7 +123,10 @@ fn run_simple(
     let mut mark = first.mark;
     let mut lines = first.lines;
     let mut count = from;
-    while (count < room) & (place < safe) {
+    while count < room {
+        if safe <= place {
+            return run_at(first, place, mark, lines, count);
+        }
         let blanks = near_blanks(src, place, mark);
         if !is_ready(blanks, safe, lines, table) {
             return run_at(first, place, mark, lines, count);
