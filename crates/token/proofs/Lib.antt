@@ -3,3 +3,4 @@ pub mod Table
 pub mod Words
 pub mod Padding
 pub mod Search
+pub mod Slots

@@ -27,7 +27,7 @@ rowIn slot [] = pair IDENT 0
 rowIn slot (k ∷ ks) = cond (leb (length (k .name)) 8 && eqb slot (slotOfWord (k .name))) (pair (k .kind) (numberOf (k .name))) (rowIn slot ks)
 
 -- what each of the 64 slots has
-abbrev slotsFrom : (ℕ → ℕ) → ℕ → ℕ → List ℕ
+unfoldable pub slotsFrom : (ℕ → ℕ) → ℕ → ℕ → List ℕ
 slotsFrom f slot zero = []
 slotsFrom f slot (suc n) = f slot ∷ slotsFrom f (suc slot) n
 
