@@ -29,7 +29,7 @@ bytes-take (suc n) [] h i = lit< tt
 bytes-take (suc n) (x ∷ s) h zero = h zero
 bytes-take (suc n) (x ∷ s) h (suc i) = bytes-take n s (λ j. h (suc j)) i
 
-bytes-drop : (n : ℕ) (s : List ℕ) → Bytes s → Bytes (drop n s)
+pub bytes-drop : (n : ℕ) (s : List ℕ) → Bytes s → Bytes (drop n s)
 bytes-drop n s h i = rw getD-drop (h (n + i))
 
 pub number-next : (s : List ℕ) (i n : ℕ) → numberOf (take (suc n) (drop i s)) ≡ numberOf (take n (drop (suc i) s)) * 256 + getD s i 0
@@ -114,10 +114,13 @@ number-take (suc n) (x ∷ s) h =
       number-take n s (λ i. h (suc i)),
     )
 
--- of eight bytes a mask cuts out the first n
+-- of eight bytes a remainder has the first n
+pub number-mod : (s : List ℕ) (n : ℕ) → Bytes s → n ≤ 8 → numberOf (take 8 s) % 2 ^ (8 * n) ≡ numberOf (take n s)
+number-mod s n h l = number-take n (take 8 s) (bytes-take 8 s h) ∙ ap numberOf (take-take n 8 s l)
+
+-- and so a mask cuts them out
 pub number-mask : (s : List ℕ) (n : ℕ) → Bytes s → n ≤ 8 → bitAnd (numberOf (take 8 s)) (2 ^ (8 * n) - 1) ≡ numberOf (take n s)
-number-mask s n h l =
-    and-mask (numberOf (take 8 s)) (8 * n) ∙ number-take n (take 8 s) (bytes-take 8 s h) ∙ ap numberOf (take-take n 8 s l)
+number-mask s n h l = and-mask (numberOf (take 8 s)) (8 * n) ∙ number-mod s n h l
 
 pub number-injective : (a b : List ℕ) → Bytes a → Bytes b → length a ≡ length b → numberOf a ≡ numberOf b → a ≡ b
 unfolding numberOf

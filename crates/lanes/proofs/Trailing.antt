@@ -1,8 +1,9 @@
--- Laws of trailing zeros by bytes: a byte of zeros adds eight, and in a byte 0x80 they end.
-use Prim.Native.Nat.{ℕ, suc, _+_, _*_, _/_, _%_}
+-- Laws of trailing zeros by bytes: a byte of zeros adds eight, and in a byte 0x80 they end. Where a digit is set, they are not all.
+use Prim.Native.Nat.{ℕ, zero, suc, _+_, _*_, _/_, _%_, _^_, _<_}
 use mathlib.Core.Path.{_≡_, refl}
+use native.Mathlib.Nat.{pow-suc}
 use native.Mathlib.Omega.{arith}
-use lib.Count.{trailingZeros}
+use lib.Count.{trailingZeros, under}
 
 tz-even : (k a : ℕ) → trailingZeros (suc k) (a * 2) ≡ suc (trailingZeros k a)
 unfolding trailingZeros
@@ -27,3 +28,13 @@ pub zeros-end : (n a : ℕ) → trailingZeros (8 * suc n) (a * 256 + 0x80) / 8 �
 zeros-end n a =
     let e : a * 256 + 0x80 ≡ (a * 2 + 1) * 2 * 2 * 2 * 2 * 2 * 2 * 2 = omega arith in
     rw (bits n, e, tz-even, tz-even, tz-even, tz-even, tz-even, tz-even, tz-even, tz-odd) refl
+
+-- a number of k digits that is not 0 has fewer zeros
+pub zeros-lt : (k n : ℕ) → 0 < n → n < 2 ^ k → trailingZeros k n < k
+unfolding trailingZeros
+zeros-lt zero n p h = absurd (omega arith)
+zeros-lt (suc k) n p h = go (n % 2) refl (λ q. zeros-lt k (n / 2) q (omega (arith, pow-suc 2 k)))
+  where
+    go : (d : ℕ) → n % 2 ≡ d → (0 < n / 2 → trailingZeros k (n / 2) < k) → under d (trailingZeros k (n / 2)) < suc k
+    go zero e rest = omega (arith, rest (omega arith))
+    go (suc d) e rest = omega arith

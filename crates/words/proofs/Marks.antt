@@ -158,7 +158,7 @@ module _ (s : List ℕ) (p : ℕ) where
   run-none e = elim (decLt p (length s)) [ yes h ↦ omega (arith, word-stop s p h e) | no h ↦ omega (arith, word-end s p (omega arith)) ]
 
 -- the run at a place, as far as n bytes go
-pub run-marked : (s : List ℕ) → Bytes s → (n p : ℕ)
+run-marked : (s : List ℕ) → Bytes s → (n p : ℕ)
     → trailingZeros (8 * n) (lanes n other (numberOf (take n (drop p s)))) / 8 ≡ min n (wordLen (chars (drop p s)))
 unfolding trailingZeros other
 run-marked s bytes zero p = sym (zero-min _)
@@ -173,6 +173,11 @@ run-marked s bytes (suc n) p =
         → trailingZeros (8 * suc n) (rest * 256 + cond t 0 0x80) / 8 ≡ min (suc n) (wordLen (chars (drop p s)))
     go true e ih = rw (add-zero (rest * 256), zeros-next n rest, ih, run-next s p e) (omega arith)
     go false e ih = rw (zeros-end n rest, run-none s p e) (omega arith)
+
+-- and eight, in the form that the code has
+pub run-zeros : (s : List ℕ) → Bytes s → (p w m : ℕ) → w ≡ numberOf (take 8 (drop p s)) → m ≡ lanes 8 other w
+    → trailingZeros 64 m / 8 ≡ min 8 (wordLen (chars (drop p s)))
+run-zeros s bytes p w m e f = ap (λ x. trailingZeros 64 x / 8) (f ∙ ap (lanes 8 other) e) ∙ run-marked s bytes 8 p
 
 -- k characters on in a run
 pub run-skip : (s : List ℕ) (k p : ℕ) → k ≤ wordLen (chars (drop p s)) → wordLen (chars (drop p s)) ≡ k + wordLen (chars (drop (p + k) s))
