@@ -6,6 +6,7 @@ pub mod Scans
 pub mod Fitting
 pub mod Committed
 pub mod Parts
+pub mod Spaces
 pub mod Given
 pub mod Runs
 pub mod Ends

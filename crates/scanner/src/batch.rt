@@ -85,7 +85,7 @@ fn run_at(first: State, place: usize, mark: bool, lines: usize, count: usize) ->
 
 // May a token be given behind these blanks? It starts before the safe place, and there is room for the line start.
 fn is_ready(blanks: Near, safe: usize, lines: usize, table: &[usize]) -> bool
-    ensures { λ r. ⌜ r ≡ true → (blanks .found ≡ true) × (blanks .end < safe) × (blanks .lf ≡ true → lines < length (now (table .entry))) ⌝ }
+    ensures { λ r. ⌜ (r ≡ true → (blanks .found ≡ true) × (blanks .end < safe) × (blanks .lf ≡ true → lines < length (now (table .entry)))) ⌝ }
 {
     if !blanks.found {
         return false;

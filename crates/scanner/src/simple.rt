@@ -1,6 +1,8 @@
 // Simple tokens: words, delimiters, operators but those that start with a slash, and the semicolon that is inserted before a line feed.
 // The first byte tells them from all others, for a point together with the second. Their text is the source's own bytes.
-use state::bit_of;
+use crate::answer::Token;
+use crate::layout::put_token_at;
+use state::Part;
 ghost use mathlib.Core.Path.{_≡_};
 ghost use mathlib.Core.Bool.{false, true};
 ghost use mathlib.Core.Logic.{_≢_};
@@ -94,16 +96,25 @@ fn put_shown(
     requires { ⌜ to + tokenWidth ≤ length (now tokens) ⌝ }
     ensures { λ r. ⌜ now (tokens .exit) ≡ sets (now (tokens .entry)) to (tokenNumbers (simpleToken kind inserted position start end)) ⌝ }
 {
-    tokens[to] = kind as usize;
-    tokens[to + 1] = bit_of(inserted);
-    tokens[to + 2] = position;
-    tokens[to + 3] = 0;
-    tokens[to + 4] = 0;
-    tokens[to + 5] = start;
-    tokens[to + 6] = end;
-    tokens[to + 7] = 0;
-    tokens[to + 8] = start;
-    tokens[to + 9] = start;
+    let text = Part {
+        area: false,
+        start,
+        end,
+    };
+    let value = Part {
+        area: false,
+        start,
+        end: start,
+    };
+    let token = Token {
+        kind,
+        inserted,
+        position,
+        code: 0,
+        text,
+        value,
+    };
+    put_token_at(token, tokens, to);
 }
 
 // Gives the word of a kind; only an identifier has a text.

@@ -16,7 +16,7 @@ use Rattle.scanner.proofs.simple.first_kinds.Tie as tie
 -- the table before the loop
 unfoldable marks : List ℕ
 marks =
-    let to-lparen = set (set (set (set (set (replicate 256 ILLEGAL) 10 SEMICOLON) 33 ADD) 37 ADD) 38 ADD) 40 LPAREN in
+    let to-lparen = set (set (set (set (replicate 256 ILLEGAL) 33 ADD) 37 ADD) 38 ADD) 40 LPAREN in
     let to-period = set (set (set (set (set (set to-lparen 41 RPAREN) 42 ADD) 43 ADD) 44 COMMA) 45 ADD) 46 PERIOD in
     let to-greater = set (set (set (set (set to-period 58 ADD) 59 SEMICOLON) 60 ADD) 61 ADD) 62 ADD in
     set (set (set (set (set (set (set to-greater 91 LBRACK) 93 RBRACK) 94 ADD) 95 IDENT) 123 LBRACE) 124 ADD) 125 RBRACE
@@ -109,21 +109,18 @@ array-write-kinds-21 c = search needs
 array-write-kinds-22 : tie.Need-array-write-kinds-22 Inv-loop μ-loop
 array-write-kinds-22 c = search needs
 
-array-write-kinds-23 : tie.Need-array-write-kinds-23 Inv-loop μ-loop
-array-write-kinds-23 c = search needs
-
 loop-holds : tie.Need-loop-holds Inv-loop μ-loop
 unfolding lettered marks
 loop-holds c = (search needs, search needs, refl)
 
-array-write-kinds-24 : tie.Need-array-write-kinds-24 Inv-loop μ-loop
-array-write-kinds-24 c = search needs
+array-write-kinds-23 : tie.Need-array-write-kinds-23 Inv-loop μ-loop
+array-write-kinds-23 c = search needs
 
 add-kinds : tie.Need-add-kinds Inv-loop μ-loop
 add-kinds c = search needs
 
-array-write-kinds-25 : tie.Need-array-write-kinds-25 Inv-loop μ-loop
-array-write-kinds-25 c = search needs
+array-write-kinds-24 : tie.Need-array-write-kinds-24 Inv-loop μ-loop
+array-write-kinds-24 c = search needs
 
 add-b : tie.Need-add-b Inv-loop μ-loop
 add-b c = search needs
@@ -171,11 +168,10 @@ first-kinds-spec =
     array-write-kinds-20
     array-write-kinds-21
     array-write-kinds-22
-    array-write-kinds-23
     loop-holds
-    array-write-kinds-24
+    array-write-kinds-23
     add-kinds
-    array-write-kinds-25
+    array-write-kinds-24
     add-b
     loop-less
     loop-again
