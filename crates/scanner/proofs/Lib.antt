@@ -8,10 +8,10 @@ pub mod Committed
 pub mod Parts
 pub mod Spaces
 pub mod Given
-pub mod Runs
 pub mod Ends
 pub mod Tries
 pub mod SimpleTokens
+pub mod Giving
 pub mod LineStarts
-pub mod Strings
 pub mod SimpleScans
+pub mod Runs

@@ -17,7 +17,7 @@ use Rattle.basics.proofs.Every.{every-below}
 use Rattle.basics.proofs.Lists.{reach, same-true}
 use Rattle.utf8.specs.declared.Char.{Char}
 use Rattle.utf8.specs.Chars.{chars}
-use Rattle.token.specs.Kinds.{ILLEGAL, EOF, IDENT, ADD, LPAREN, LBRACK, LBRACE, COMMA, PERIOD, RPAREN, RBRACK, RBRACE, SEMICOLON, COLON, BREAK, VAR}
+use Rattle.token.specs.Kinds.{ILLEGAL, EOF, IDENT, STRING, ADD, LPAREN, LBRACK, LBRACE, COMMA, PERIOD, RPAREN, RBRACK, RBRACE, SEMICOLON, COLON, BREAK, VAR}
 use Rattle.token.specs.Table.{Row, operators, identToken}
 use Rattle.token.proofs.Ranges.{true-of}
 use Rattle.token.proofs.Words.{word-kind}
@@ -31,13 +31,13 @@ use Rattle.lexer.specs.declared.lexed.Value.the-variants.{Empty as NoValue}
 use Rattle.lexer.specs.Lexeme.{setsMark}
 use Rattle.lexer.specs.Words.{lexWord}
 use Rattle.lexer.specs.Lex.{lexOperator, lexBy, lexToken}
-use Rattle.lexer.specs.Made.{answer, madeAt}
+use Rattle.lexer.specs.Made.{madeAt, insertedAt}
 use Rattle.lexer.specs.Placed.{placed, said}
 use Rattle.lexer.proofs.Said.{semicolon-said}
 use Rattle.lexer.proofs.Tokens.{operator-fits, operator-said}
 use Rattle.lexer.proofs.Opened.{open-chars}
 use Rattle.lexer.proofs.Dispatch.{none-of, word-is, feed-is, operator-is}
-use Rattle.scanner.specs.Simple.{isOneOf, startsOperator, firstKind, IsTable, simpleAs, delimiterAs, SimpleAt}
+use Rattle.scanner.specs.Simple.{isOneOf, startsOperator, firstKind, IsTable}
 
 -- ---- what a byte tells, by computing each
 -- only a letter tells a word
@@ -56,6 +56,10 @@ pub first-small : (b : ℕ) → b < 256 → firstKind b < 128
 unfolding firstKind startsOperator isLetter
 first-small b h = ltb-true (firstKind b) 128 (true-of _ (every-below (λ x. ltb (firstKind x) 128) 256 tt b h))
 
+pub first-no-string : (b : ℕ) → b < 256 → eqb (firstKind b) STRING ≡ false
+unfolding firstKind startsOperator isLetter
+first-no-string b h = not-true _ (true-of _ (every-below (λ x. not (eqb (firstKind x) STRING)) 256 tt b h))
+
 pub first-known : (b : ℕ) → b < 256 → eqb (firstKind b) EOF ≡ false
 unfolding firstKind startsOperator isLetter
 first-known b h = not-true _ (true-of _ (every-below (λ x. not (eqb (firstKind x) EOF)) 256 tt b h))
@@ -64,11 +68,6 @@ first-known b h = not-true _ (true-of _ (every-below (λ x. not (eqb (firstKind 
 pub word-small : (kind : ℕ) (word : List ℕ) → kind ≡ identToken word → kind < 128
 word-small kind word e =
     ⊎-elim (λ i. omega (arith, e, i)) (λ t. let q = between-true BREAK (identToken word) VAR t in omega (arith, e, q .1)) (word-kind word)
-
--- a kind other than IDENT has no text
-pub without-text : (kind at end : ℕ) (mark : Bool) → kind ≢ IDENT
-    → answer kind at end false mark (cond (eqb kind IDENT) AsRead Empty) NoValue 0 ≡ madeAt kind at end mark Empty NoValue
-without-text kind at end mark n = ap (λ t. answer kind at end false mark (cond t AsRead Empty) NoValue 0) (ne-eqb kind IDENT n)
 
 -- ---- what holds of each delimiter holds of a byte that tells neither nothing nor a word nor an operator
 one-of : (P : ℕ → Type 0) (b x kind rest : ℕ) → P x → (rest ≢ ILLEGAL → P b) → cond (eqb b x) kind rest ≢ ILLEGAL → P b
@@ -83,11 +82,10 @@ no-operator : (b : ℕ) → isLetter b ≡ false → firstKind b ≢ ADD → sta
 unfolding firstKind
 no-operator b l n = ⊎-elim (λ (e : startsOperator b ≡ true). absurd (n (rw (l, e)))) (λ e. e) (either (startsOperator b))
 
-delimiter-ind : (P : ℕ → Type 0) → P 10 → P 40 → P 41 → P 44 → P 46 → P 59 → P 91 → P 93 → P 123 → P 125
+delimiter-ind : (P : ℕ → Type 0) → P 40 → P 41 → P 44 → P 46 → P 59 → P 91 → P 93 → P 123 → P 125
     → (b : ℕ) → firstKind b ≢ ILLEGAL → firstKind b ≢ IDENT → firstKind b ≢ ADD → P b
 unfolding firstKind
-delimiter-ind P feed lparen rparen comma period semicolon lbrack rbrack lbrace rbrace b n i a =
-    (one-of P b 10 SEMICOLON _ feed
+delimiter-ind P lparen rparen comma period semicolon lbrack rbrack lbrace rbrace b n i a =
     (one-of P b 40 LPAREN _ lparen
     (one-of P b 41 RPAREN _ rparen
     (one-of P b 44 COMMA _ comma
@@ -96,7 +94,7 @@ delimiter-ind P feed lparen rparen comma period semicolon lbrack rbrack lbrace r
     (one-of P b 91 LBRACK _ lbrack
     (one-of P b 93 RBRACK _ rbrack
     (one-of P b 123 LBRACE _ lbrace
-    (one-of P b 125 RBRACE _ rbrace (λ z. absurd (z refl))))))))))))
+    (one-of P b 125 RBRACE _ rbrace (λ z. absurd (z refl)))))))))))
     (rw (no-letter b i, no-operator b (no-letter b i) a) at n)
 
 -- a letter is past the digits and the point
@@ -156,6 +154,21 @@ longest-proper (row ∷ rows) r t =
     cond-ind P (begins (row .name) r) _ _
     (λ _. cond-ind P (leb (longest rows r .len) (length (row .name))) _ _ (λ _. inr here) (λ _. rest)) (λ _. rest)
 
+-- no row is of more than three characters
+abbrev allShort : List Row → Bool
+allShort [] = true
+allShort (row ∷ rows) = leb (length (row .name)) 3 && allShort rows
+
+longest-short : (rows : List Row) (r : List Char) → T (allShort rows) → longest rows r .len ≤ 3
+unfolding longest
+longest-short [] r t = omega arith
+longest-short (row ∷ rows) r t =
+    let P : Operator → Type 0 = λ x. x .len ≤ 3 in
+    let here = leb-true _ _ (true-of _ (and-left (leb (length (row .name)) 3) (allShort rows) t)) in
+    let rest = longest-short rows r (and-right (leb (length (row .name)) 3) (allShort rows) t) in
+    cond-ind P (begins (row .name) r) _ _
+    (λ _. cond-ind P (leb (longest rows r .len) (length (row .name))) _ _ (λ _. here) (λ _. rest)) (λ _. rest)
+
 -- each of those first bytes is an operator by itself, and no other rule reads it
 abbrev ByItself : ℕ → Type 0
 ByItself b = T (ltb 0 b && (ltb b 0x80 && spells (b ∷ []) operators)) × ((mark : Bool) (r : List Char) → lexBy mark b r ≡ lexOperator mark r)
@@ -210,11 +223,7 @@ module _ (s : List ℕ) (at : ℕ) (mark : Bool) where
   abbrev Reads : ℕ → Type 0
   Reads b =
       getD s at 0 ≡ b → (firstKind b ≡ PERIOD → isLetter (getD s (at + 1) 0) ≡ true)
-      → said s at (simpleAs at (delimiterAs (eqb b 10) at (firstKind b))) ≡ placed s at (lexToken mark (chars (drop at s)))
-
-  feed-read : Reads 10
-  unfolding firstKind startsOperator isLetter
-  feed-read e p = semicolon-said s at ∙ ap (placed s at) (feed-is mark s at (reach s at (omega (arith, e))) e)
+      → said s at (madeAt (firstKind b) at (at + 1) (setsMark (firstKind b)) Empty NoValue) ≡ placed s at (lexToken mark (chars (drop at s)))
 
   point-read : Reads 46
   unfolding firstKind startsOperator isLetter
@@ -223,7 +232,7 @@ module _ (s : List ℕ) (at : ℕ) (mark : Bool) where
   pub delimiter-read : (b : ℕ) → firstKind b ≢ ILLEGAL → firstKind b ≢ IDENT → firstKind b ≢ ADD → Reads b
   unfolding firstKind startsOperator isLetter lexBy operators
   delimiter-read =
-      delimiter-ind Reads feed-read
+      delimiter-ind Reads
       (λ e p. alone 40 LPAREN (omega arith) (omega arith) refl (λ z. omega arith) refl e)
       (λ e p. alone 41 RPAREN (omega arith) (omega arith) refl (λ z. omega arith) refl e)
       (λ e p. alone 44 COMMA (omega arith) (omega arith) refl (λ z. omega arith) refl e)
@@ -233,6 +242,10 @@ module _ (s : List ℕ) (at : ℕ) (mark : Bool) where
       (λ e p. alone 93 RBRACK (omega arith) (omega arith) refl (λ z. omega arith) refl e)
       (λ e p. alone 123 LBRACE (omega arith) (omega arith) refl (λ z. omega arith) refl e)
       (λ e p. alone 125 RBRACE (omega arith) (omega arith) refl (λ z. omega arith) refl e)
+
+  -- the semicolon before a line feed
+  pub feed-read : getD s at 0 ≡ 10 → said s at (insertedAt at) ≡ placed s at (lexToken mark (chars (drop at s)))
+  feed-read e = semicolon-said s at ∙ ap (placed s at) (feed-is mark s at (reach s at (omega (arith, e))) e)
 
 -- ---- the operator at a place
 module _ (s : List ℕ) (at : ℕ) (o : Operator) (is : o ≡ operatorOf (chars (drop at s))) (h : startsOperator (getD s at 0) ≡ true) where
@@ -255,6 +268,10 @@ module _ (s : List ℕ) (at : ℕ) (o : Operator) (is : o ≡ operatorOf (chars 
       let long = longest-least (getD s at 0 ∷ []) operators r begins-there (first-byte .2) in
       rw is (⊎-elim (λ e. absurd (omega (arith, e, long))) (λ t. between-true ADD (operatorOf r .kind) COLON t) (longest-proper operators r tt))
 
+  pub operator-short : o .len ≤ 3
+  unfolding operators
+  operator-short = rw is (longest-short operators (chars (drop at s)) tt)
+
   pub operator-within : at + o .len ≤ length s
   operator-within = operator-fits s at true o is (omega (arith, reach s at (first-byte .0)))
 
@@ -263,35 +280,3 @@ module _ (s : List ℕ) (at : ℕ) (o : Operator) (is : o ≡ operatorOf (chars 
   operator-reads mark =
       operator-said s at mark o is (λ e. omega (arith, e, operator-kind .0))
       ∙ ap (placed s at) (sym (by-byte s at mark (getD s at 0) (first-byte .0) (first-byte .1) refl ∙ starts (getD s at 0) h .1 mark (chars (drop at s))))
-
--- ---- by the table of what each first byte tells
-module _ (kinds s : List ℕ) (at : ℕ) (is : IsTable kinds) (h : at < length s) (small : getD s at 0 < 256) where
-  first-is : getD kinds (getD s at 0) 0 ≡ firstKind (getD s at 0)
-  first-is = is .1 (getD s at 0) small
-
-  pub told-small : getD kinds (getD s at 0) 0 < 128
-  told-small = rw first-is (first-small (getD s at 0) small)
-
-  -- a word, whatever the mark is
-  pub word-told : getD kinds (getD s at 0) 0 ≡ IDENT → (mark : Bool) → lexWord (chars (drop at s)) ≡ lexToken mark (chars (drop at s))
-  word-told e mark = word-is mark s at h (letter-first (getD s at 0) small (sym first-is ∙ e))
-
-  -- the first byte of an operator
-  pub operator-told : getD kinds (getD s at 0) 0 ≡ ADD → startsOperator (getD s at 0) ≡ true
-  operator-told e = operator-first (getD s at 0) small (sym first-is ∙ e)
-
-  -- a delimiter, by the tests of the code and the byte after it
-  pub delimiter-told : (second : ℕ) → second ≡ getD s (at + 1) 0 → second < 256
-      → eqb (getD kinds (getD s at 0) 0) ILLEGAL || (eqb (getD kinds (getD s at 0) 0) PERIOD && not (eqb (getD kinds second 0) IDENT)) ≡ false
-      → getD kinds (getD s at 0) 0 ≢ IDENT → getD kinds (getD s at 0) 0 ≢ ADD
-      → SimpleAt s at (delimiterAs (eqb (getD s at 0) 10) at (getD kinds (getD s at 0) 0))
-  delimiter-told second next less t i a =
-      let first = getD kinds (getD s at 0) 0 in
-      let q = none-of (eqb first ILLEGAL) _ t in
-      let letter : firstKind (getD s at 0) ≡ PERIOD → isLetter (getD s (at + 1) 0) ≡ true =
-      λ e. rw next at (letter-first second less (sym (is .1 second less) ∙ eqb-true _ IDENT (not-false _ (rw (eq-eqb first PERIOD (first-is ∙ e)) at (q .1))))) in
-      rw first-is
-      (inr (
-        λ mark. delimiter-read s at mark (getD s at 0) (λ e. eqb-false first ILLEGAL (q .0) (first-is ∙ e)) (λ e. i (first-is ∙ e)) (λ e. a (first-is ∙ e)) refl letter,
-        first-known (getD s at 0) small,
-      ))

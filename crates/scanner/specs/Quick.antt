@@ -1,5 +1,5 @@
 -- Quick scans. No public contract cites this.
-use Prim.Native.Nat.{ℕ, _+_, _-_, _≤_, _<_}
+use Prim.Native.Nat.{ℕ, _+_, _-_, _<_}
 use mathlib.Core.Path.{_≡_}
 use mathlib.Core.Bool.{Bool, true, false, cond}
 use mathlib.Core.List.{List, [], _∷_}
@@ -65,6 +65,6 @@ stateAt s place mark lines =
       errors = s .errors;
     }
 
--- from each place before the safe one sixteen more bytes are in the source, and the offset stays below the size
+-- from each place before the safe one more than sixteen bytes are in the source, and the offset stays below the size
 abbrev pub IsSafe : List ℕ → State → ℕ → Type 0
-IsSafe src s safe = (p : ℕ) → p < safe → (p + 16 ≤ length src) × (p + 16 ≤ s .place + (s .size - s .offset))
+IsSafe src s safe = (p : ℕ) → p < safe → (p + 16 < length src) × (p + 16 < s .place + (s .size - s .offset))

@@ -64,7 +64,7 @@ fn state_at(first: State, place: usize, mark: bool, lines: usize) -> State
     }
 }
 
-// A place before which simple tokens are read: from there sixteen more bytes are in the source, and at each of them the offset is below the size.
+// A place before which simple tokens start: from there more than sixteen bytes are in the source, and the offset stays below the size.
 fn safe_end(src: &[u8], first: State) -> usize
     requires { ⌜ (first .place ≤ length (now src)) × (first .offset ≤ first .size) × (first .size < 2 ^ 32) ⌝ }
     ensures { λ r. ⌜ IsSafe (now (src .entry)) first r ⌝ }

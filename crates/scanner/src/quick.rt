@@ -7,19 +7,14 @@ use lexer::Lexed;
 use state::Part;
 use state::State;
 ghost use mathlib.Core.Path.{_≡_};
-ghost use mathlib.Core.Bool.{true, false};
+ghost use mathlib.Core.Bool.{true};
 ghost use Prim.Native.Nat.{_+_, _-_, _≤_};
 ghost use mathlib.Core.List.{_++_};
-ghost use lib.Dec.{eqb};
-ghost use lib.ListN.{length, drop};
+ghost use lib.ListN.{length};
 ghost use lib.Seq.{sets};
-ghost use Rattle.utf8.specs.Chars.{chars};
-ghost use Rattle.token.specs.Kinds.{EOF};
-ghost use Rattle.blanks.specs.Blank.{skip, skippedAt};
 ghost use Rattle.state.specs.Fits.{fits};
 ghost use Rattle.scanner.specs.Steps.{startsFrom, Reads};
-ghost use Rattle.scanner.specs.Simple.{IsTable, simpleAs};
-ghost use Rattle.scanner.specs.Quick.{notDone, doneWith, endsInFeed, startAfter, Tries, TriesOn};
+ghost use Rattle.scanner.specs.Quick.{notDone, doneWith, endsInFeed, startAfter, Tries};
 
 // Whether a scan is done; if so, the state after it and the token.
 pub(crate) struct Tried {

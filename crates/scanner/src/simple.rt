@@ -148,7 +148,7 @@ fn long_word(
     tokens: &mut [usize],
     to: usize,
 ) -> Next
-    requires { ⌜ (at ≤ length (now src)) × (isLetter (getD (now src) at 0) ≡ true) × (to + tokenWidth ≤ length (now tokens)) ⌝ }
+    requires { ⌜ (at < length (now src)) × (isLetter (getD (now src) at 0) ≡ true) × (to + tokenWidth ≤ length (now tokens)) ⌝ }
     ensures { λ r. ⌜ Gives (now (src .entry)) at safe position (now (tokens .entry)) to r (now (tokens .exit)) ⌝ }
 {
     let end = words::word_end(src, at);

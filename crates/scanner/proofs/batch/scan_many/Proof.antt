@@ -16,7 +16,7 @@ use Rattle.scanner.proofs.batch.scan_many.Statement.{statement}
 use Rattle.scanner.proofs.batch.scan_many.Tie as tie
 
 abbrev Inv-loop : tie.InvT-loop
-Inv-loop src table₀ list₀ area₀ tokens₀ room kinds state₀ count₀ table list area tokens state count =
+Inv-loop src table₀ list₀ area₀ tokens₀ room firsts numbers kinds state₀ count₀ table list area tokens state count =
     (length table ≡ length table₀)
     × (length list ≡ length list₀)
     × (length area ≡ length area₀)
@@ -26,7 +26,7 @@ Inv-loop src table₀ list₀ area₀ tokens₀ room kinds state₀ count₀ tab
     × (leftBy tokens₀ (manyOf room src state₀ table₀ list₀ area₀) ≡ leftAfter count tokens (manyOf (room - count) src state table list area))
 
 abbrev μ-loop : tie.MeasureT-loop
-μ-loop src table₀ list₀ area₀ tokens₀ room kinds state₀ count₀ table list area tokens state count = room - count
+μ-loop src table₀ list₀ area₀ tokens₀ room firsts numbers kinds state₀ count₀ table list area tokens state count = room - count
 
 stopped-requires : tie.Need-stopped-requires Inv-loop μ-loop
 stopped-requires c κs = tt
@@ -54,36 +54,45 @@ returns-2 c =
 first-kinds-requires : tie.Need-first-kinds-requires Inv-loop μ-loop
 first-kinds-requires c κs = tt
 
+keyword-numbers-requires : tie.Need-keyword-numbers-requires Inv-loop μ-loop
+keyword-numbers-requires c κs = tt
+
+keyword-kinds-requires : tie.Need-keyword-kinds-requires Inv-loop μ-loop
+keyword-kinds-requires c κs = tt
+
 loop-holds : tie.Need-loop-holds Inv-loop μ-loop
-loop-holds c = (refl, refl, refl, refl, search needs, sym (c .before .before .fits2 .ensures) ∙ not-false _ (c .before .if2 .left), left-start _ _ _ _ _ _ _)
+loop-holds c =
+    let e = c .before .before .before in
+    (refl, refl, refl, refl, search needs, sym (e .before .fits2 .ensures) ∙ not-false _ (e .if2 .left), left-start _ _ _ _ _ _ _)
 
 run-simple-requires : tie.Need-run-simple-requires Inv-loop μ-loop
 run-simple-requires c κs =
-    let l = c .before .before .before .before .before in
+    let l = c .before .before .before .before .before .before .before in
+    let made = l .before in
     let same = l .loop .inv .3 in
-    (l .loop .inv .5, l .before .first-kinds .ensures, l .loop .inv .4, omega arith)
+    (l .loop .inv .5, made .before .before .first-kinds .ensures, (made .before .keyword-numbers .ensures, made .keyword-kinds .ensures), l .loop .inv .4, omega arith)
 
 -- after the run of simple tokens: the lengths, and the scans that are left
 run-lengths : (c : tie.After-state Inv-loop μ-loop)
     → let r = c .before .before .before .before .before in
-    let a = r .before .before .before .before .before .before .before .before .before .before .before .before .before .before .before .before .before .before .args in
-    (length (r .run-simple .last .1 .1 .1 .0) ≡ length (a .table .now)) × (length (r .run-simple .last .1 .1 .1 .1 .1 .0) ≡ length (a .tokens .now))
+    let a = r .before .before .before .before .before .before .before .before .before .before .before .before .before .before .before .before .before .before .before .before .before .before .args in
+    (length (r .run-simple .last .1 .1 .1 .1 .1 .0) ≡ length (a .table .now)) × (length (r .run-simple .last .1 .1 .1 .1 .1 .1 .1 .0) ≡ length (a .tokens .now))
 run-lengths c = (search needs, search needs)
 
 run-left : (r : tie.After-run-simple Inv-loop μ-loop)
-    → let l = r .before .before .before .before .before .before .loop in
-    let a = r .before .before .before .before .before .before .before .before .before .before .before .before .before .before .before .before .before .before .args in
+    → let l = r .before .before .before .before .before .before .before .before .loop in
+    let a = r .before .before .before .before .before .before .before .before .before .before .before .before .before .before .before .before .before .before .before .before .before .before .args in
     let room = tokenRoom (a .tokens .now) in
     let n = r .run-simple .result .count in
     leftBy (a .tokens .now) (manyOf room (a .src .now) (a .first) (a .table .now) (a .list .now) (a .area .now))
-    ≡ leftAfter n (r .run-simple .last .1 .1 .1 .1 .1 .0) (manyOf (room - n) (a .src .now) (r .run-simple .result .state) (r .run-simple .last .1 .1 .1 .0) (l .list) (l .area))
+    ≡ leftAfter n (r .run-simple .last .1 .1 .1 .1 .1 .1 .1 .0) (manyOf (room - n) (a .src .now) (r .run-simple .result .state) (r .run-simple .last .1 .1 .1 .1 .1 .0) (l .list) (l .area))
 run-left r =
-    let l = r .before .before .before .before .before .before .loop in
+    let l = r .before .before .before .before .before .before .before .before .loop in
     l .inv .6 ∙ r .run-simple .ensures .3 (l .area)
 
 -- there is room for one more
 room-left : (c : tie.Else3 Inv-loop μ-loop)
-    → let r = c .before .before .before .before .before .before in r .run-simple .result .count < tokenRoom (r .before .before .before .before .before .before .before .before .before .before .before .before .before .before .before .before .before .before .args .tokens .now)
+    → let r = c .before .before .before .before .before .before in r .run-simple .result .count < tokenRoom (r .before .before .before .before .before .before .before .before .before .before .before .before .before .before .before .before .before .before .before .before .before .before .args .tokens .now)
 room-left c = omega (arith, c .if3 .left, c .before .before .before .before .before .before .run-simple .ensures .2)
 
 stopped-requires-3 : tie.Need-stopped-requires-3 Inv-loop μ-loop
@@ -104,7 +113,7 @@ same-length-6 c = search needs
 returns-3 : tie.Need-returns-3 Inv-loop μ-loop
 returns-3 c =
     let r = c .before .before .before .before .before .before .before in
-    let full : tokenRoom (r .before .before .before .before .before .before .before .before .before .before .before .before .before .before .before .before .before .before .args .tokens .now) ≤ r .run-simple .result .count = omega (arith, c .before .if3 .taken) in
+    let full : tokenRoom (r .before .before .before .before .before .before .before .before .before .before .before .before .before .before .before .before .before .before .before .before .before .before .args .tokens .now) ≤ r .run-simple .result .count = omega (arith, c .before .if3 .taken) in
     rw (c .stopped3 .ensures) (sym (run-left r ∙ left-none _ _ _ _ _ _ _ _ full))
 
 scan-next-requires : tie.Need-scan-next-requires Inv-loop μ-loop
@@ -122,17 +131,17 @@ after c =
 
 scanned : (c : tie.After-scan-next Inv-loop μ-loop)
     → let r = c .before .before .before .before .before .before .before .before .before .before in
-    let l = r .before .before .before .before .before .before .loop in
-    after c ≡ scanOf (r .before .before .before .before .before .before .before .before .before .before .before .before .before .before .before .before .before .before .args .src .now) (r .run-simple .result .state) (r .run-simple .last .1 .1 .1 .0) (l .list) (l .area)
+    let l = r .before .before .before .before .before .before .before .before .loop in
+    after c ≡ scanOf (r .before .before .before .before .before .before .before .before .before .before .before .before .before .before .before .before .before .before .before .before .before .before .args .src .now) (r .run-simple .result .state) (r .run-simple .last .1 .1 .1 .1 .1 .0) (l .list) (l .area)
 scanned c = c .scan-next .ensures
 
 scan-lengths : (c : tie.After-struct-known Inv-loop μ-loop)
     → let s = c .before .before .before .before .before .before .before .before in
-    let a = s .before .before .before .before .before .before .before .before .before .before .before .before .before .before .before .before .before .before .before .before .before .before .before .before .before .before .before .before .args in
+    let a = s .before .before .before .before .before .before .before .before .before .before .before .before .before .before .before .before .before .before .before .before .before .before .before .before .before .before .before .before .before .before .before .before .args in
     (length (after s .table) ≡ length (a .table .now)) × (length (after s .list) ≡ length (a .list .now)) × (length (after s .area) ≡ length (a .area .now))
 scan-lengths c =
     let s = c .before .before .before .before .before .before .before .before in
-    let l = s .before .before .before .before .before .before .before .before .before .before .before .before .before .before .before .before .loop in
+    let l = s .before .before .before .before .before .before .before .before .before .before .before .before .before .before .before .before .before .before .loop in
     (omega (arith, run-lengths (s .before .before .before .before .before) .0), omega (arith, l .inv .1), omega (arith, l .inv .2))
 
 stopped-requires-4 : tie.Need-stopped-requires-4 Inv-loop μ-loop
@@ -158,20 +167,20 @@ returns-4 c =
 -- the numbers of one more token fit
 token-room : (c : tie.After-put-token-at-arg Inv-loop μ-loop)
     → let r = c .before .before .before .before .before .before .before .before .before .before .before .before .before .before .before .before .before .before .before .before in
-    r .run-simple .result .count * tokenWidth + tokenWidth ≤ length (r .before .before .before .before .before .before .before .before .before .before .before .before .before .before .before .before .before .before .args .tokens .now)
+    r .run-simple .result .count * tokenWidth + tokenWidth ≤ length (r .before .before .before .before .before .before .before .before .before .before .before .before .before .before .before .before .before .before .before .before .before .before .args .tokens .now)
 token-room c = token-fits _ _ (room-left (c .before .before .before .before .before .before .before .before .before .before .before .before .before .before))
 
 mul-put-token-at : tie.Need-mul-put-token-at Inv-loop μ-loop
-mul-put-token-at c = omega (arith, token-room c, c .before .before .before .before .before .before .before .before .before .before .before .before .before .before .before .before .before .before .before .before .before .before .before .before .before .before .before .before .before .before .before .before .before .before .before .before .before .before .good .1 .1 .1 .1 .1 .0 .1)
+mul-put-token-at c = omega (arith, token-room c, c .before .before .before .before .before .before .before .before .before .before .before .before .before .before .before .before .before .before .before .before .before .before .before .before .before .before .before .before .before .before .before .before .before .before .before .before .before .before .before .before .before .before .good .1 .1 .1 .1 .1 .0 .1)
 
 put-token-at-requires : tie.Need-put-token-at-requires Inv-loop μ-loop
 put-token-at-requires c κs = omega (arith, token-room c, run-lengths (c .before .before .before .before .before .before .before .before .before .before .before .before .before .before .before) .1)
 
 add-count : tie.Need-add-count Inv-loop μ-loop
-add-count c = omega (arith, token-room (c .before .before .before), c .before .before .before .before .before .before .before .before .before .before .before .before .before .before .before .before .before .before .before .before .before .before .before .before .before .before .before .before .before .before .before .before .before .before .before .before .before .before .before .before .before .good .1 .1 .1 .1 .1 .0 .1)
+add-count c = omega (arith, token-room (c .before .before .before), c .before .before .before .before .before .before .before .before .before .before .before .before .before .before .before .before .before .before .before .before .before .before .before .before .before .before .before .before .before .before .before .before .before .before .before .before .before .before .before .before .before .before .before .before .before .good .1 .1 .1 .1 .1 .0 .1)
 
 put-length : (c : tie.After-slice-known10 Inv-loop μ-loop)
-    → length (c .before .before .put-token-at .last .1 .0) ≡ length (c .before .before .before .before .before .before .before .before .before .before .before .before .before .before .before .before .before .before .before .before .before .before .before .before .before .before .before .before .before .before .before .before .before .before .before .before .before .before .before .before .before .args .tokens .now)
+    → length (c .before .before .put-token-at .last .1 .0) ≡ length (c .before .before .before .before .before .before .before .before .before .before .before .before .before .before .before .before .before .before .before .before .before .before .before .before .before .before .before .before .before .before .before .before .before .before .before .before .before .before .before .before .before .before .before .before .before .args .tokens .now)
 put-length c = omega (arith, run-lengths (c .before .before .before .before .before .before .before .before .before .before .before .before .before .before .before .before .before .before) .1)
 
 is-last-requires : tie.Need-is-last-requires Inv-loop μ-loop
@@ -202,7 +211,7 @@ returns-5 c =
 loop-less : tie.Need-loop-less Inv-loop μ-loop
 loop-less c =
     let r = c .before .before .before .before .before .before .before .before .before .before .before .before .before .before .before .before .before .before .before .before .before .before .before .before .before in
-    omega (arith, r .before .before .before .before .before .loop-test .taken, r .run-simple .ensures .1)
+    omega (arith, r .before .before .before .before .before .before .before .loop-test .taken, r .run-simple .ensures .1)
 
 loop-again : tie.Need-loop-again Inv-loop μ-loop
 loop-again c =
@@ -248,6 +257,8 @@ scan-many-spec =
     same-length-2
     returns-2
     first-kinds-requires
+    keyword-numbers-requires
+    keyword-kinds-requires
     loop-holds
     run-simple-requires
     stopped-requires-3

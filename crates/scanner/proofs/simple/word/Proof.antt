@@ -1,73 +1,97 @@
--- `scanner::simple::word` meets its contract: an identifier or a keyword.
-use mathlib.Core.Path.{sym, ap, _∙_}
-use borrow.Author.Tests.{ne-eqb}
+-- `simple::word` meets its contract: a run that ends within eight bytes is the word, and the tables of keywords tell its kind.
+use Prim.Native.Nat.{_+_, _<_}
+use mathlib.Core.Path.{_≡_, sym, ap, _∙_}
+use native.Mathlib.Omega.{arith}
+use lib.ListN.{take, drop, length-drop}
 use borrow.Author.Needs.{needs}
-use Rattle.token.specs.Kinds.{EOF}
-use Rattle.lexer.specs.Lexeme.{setsMark}
-use Rattle.lexer.specs.Placed.{said}
-use Rattle.lexer.proofs.Known.{word-known}
-use Rattle.lexer.proofs.Tokens.{identifier-said, keyword-said}
-use Rattle.scanner.proofs.SimpleTokens.{word-small, without-text}
+use Rattle.utf8.specs.Chars.{chars}
+use Rattle.lanes.specs.Lanes.{numberOf}
+use Rattle.lanes.proofs.Numbers.{bytes-drop}
+use Rattle.token.specs.Table.{identToken}
+use Rattle.words.specs.Word.{wordLen}
+use Rattle.words.specs.declared.Near.{Near}
+use Rattle.words.proofs.Marks.{run-room}
+use Rattle.scanner.proofs.SimpleTokens.{word-small}
+use Rattle.scanner.proofs.Giving.{gives-short, kind-told}
 use Rattle.scanner.proofs.simple.word.Statement.{statement}
 use Rattle.scanner.proofs.simple.word.Tie as tie
 
-word-end-requires : tie.Need-word-end-requires
-word-end-requires c κs = search needs
+near-run-requires : tie.Need-near-run-requires
+near-run-requires c κs = search needs
 
-sub-ident-token : tie.Need-sub-ident-token
-sub-ident-token c = search needs
+long-word-requires : tie.Need-long-word-requires
+long-word-requires c κs = search needs
 
-part-ident-token-start : tie.Need-part-ident-token-start
-part-ident-token-start c = search needs
-
-part-ident-token-end : tie.Need-part-ident-token-end
-part-ident-token-end c = search needs
-
-sub-ident-token-2 : tie.Need-sub-ident-token-2
-sub-ident-token-2 c = search needs
-
-ident-token-requires : tie.Need-ident-token-requires
-ident-token-requires c κs = search needs
-
-sets-mark-requires : tie.Need-sets-mark-requires
-sets-mark-requires c κs = word-small _ _ (c .ident-token .ensures)
-
-sub-t22 : tie.Need-sub-t22
-sub-t22 c = search needs
+same-length : tie.Need-same-length
+same-length c = search needs
 
 returns : tie.Need-returns
-returns c =
-    let a = c .before .before .before .before .before .before .args in
-    let e = c .before .before .before .before .word-end in
-    let k = c .before .before .ident-token in
-    let i = c .if1 .taken in (
-      rw (c .before .sets-mark .ensures, i) (rw i at (identifier-said (a .src .now) (a .at) (e .result) (k .result) (e .ensures) (k .ensures) i)),
-      ne-eqb (k .result) EOF (λ z. word-known _ (sym (k .ensures) ∙ z)),
-    )
+returns c = search needs
+
+kind-in-requires : tie.Need-kind-in-requires
+kind-in-requires c κs = search needs
+
+-- ---- where the run ends within eight bytes
+module _ (c : tie.Else1) where
+  abbrev start : tie.Start
+  start = c .before .before .before .before
+
+  -- it is the whole word
+  whole : c .before .near-run .result .len ≡ wordLen (chars (drop (start .args .at) (start .args .src .now)))
+  whole =
+      let e = ap (λ (r : Near). r .len) (c .before .near-run .ensures) in
+      let n = c .if1 .left in
+      omega (arith, e, n)
+
+  short : c .before .near-run .result .len < 8
+  short =
+      let e = ap (λ (r : Near). r .len) (c .before .near-run .ensures) in
+      let n = c .if1 .left in
+      omega (arith, e, n)
+
+add-give-word : tie.Need-add-give-word
+add-give-word c = let e = c .before in omega (arith, short e, start e .pre .1, start e .pre .2)
+
+-- the kind that the tables tell
+kind-is : (c : tie.After-kind-in)
+    → c .kind-in .result ≡ identToken (take (c .before .before .near-run .result .len) (drop (start (c .before) .args .at) (start (c .before) .args .src .now)))
+kind-is c =
+    let e = c .before in
+    let s = start e in
+    let a = s .args in
+    let run = e .before .near-run in
+    kind-told (a .numbers .now) (a .kinds .now) (drop (a .at) (a .src .now)) (run .result .number) (run .result .len) (c .kind-in .result) (s .pre .0)
+    (bytes-drop (a .at) (a .src .now) (λ i. e .before .before .before .shared-slice-known .given i .fits)) (omega (arith, short e))
+    (omega (arith, whole e, run-room (a .src .now) (a .at), length-drop (a .at) (a .src .now)))
+    (ap (λ (r : Near). r .number) (run .ensures) ∙ ap (λ m. numberOf (take m (drop (a .at) (a .src .now)))) (sym (ap (λ (r : Near). r .len) (run .ensures))))
+    (c .kind-in .ensures)
+
+give-word-requires : tie.Need-give-word-requires
+give-word-requires c κs = (word-small _ _ (kind-is (c .before)), start (c .before .before) .pre .4)
+
+same-length-2 : tie.Need-same-length-2
+same-length-2 c = search needs
 
 returns-2 : tie.Need-returns-2
 returns-2 c =
-    let a = c .before .before .before .before .before .before .args in
-    let e = c .before .before .before .before .word-end in
-    let k = c .before .before .ident-token in
-    let i = c .if1 .left in (
-      rw (c .before .sets-mark .ensures)
-          (ap (said (a .src .now) (a .at)) (without-text (k .result) (a .at) (e .result) (setsMark (k .result)) i)
-          ∙ keyword-said (a .src .now) (a .at) (e .result) (k .result) (e .ensures) (k .ensures) i),
-      ne-eqb (k .result) EOF (λ z. word-known _ (sym (k .ensures) ∙ z)),
-    )
+    let g = c .before .before in
+    let k = g .before .before in
+    let e = k .before in
+    let s = start e in
+    let a = s .args in
+    gives-short (a .src .now) (a .at) (a .safe) (a .position) (a .tokens .now) (a .to) (omega (arith, s .pre .1, s .pre .2)) (s .pre .3) (k .kind-in .result) (e .before .near-run .result .len)
+    (whole e) (kind-is k) (omega (arith, short e, s .pre .1)) (g .give-word .ensures .0) (g .give-word .ensures .1)
 
 pub word-spec : {M : Type 1} → statement M
 word-spec =
     tie.close
     (tie.spec
-    word-end-requires
-    sub-ident-token
-    part-ident-token-start
-    part-ident-token-end
-    sub-ident-token-2
-    ident-token-requires
-    sets-mark-requires
-    sub-t22
+    near-run-requires
+    long-word-requires
+    same-length
     returns
+    kind-in-requires
+    add-give-word
+    give-word-requires
+    same-length-2
     returns-2)
