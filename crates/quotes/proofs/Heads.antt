@@ -1,24 +1,26 @@
 -- The characters that an escape reads: they are there, and each is the quote or lies between 0 and z.
 use Prim.Native.Nat.{ℕ, zero, suc, _*_, _+_, _≤_, _<_, suc-le-suc}
-use mathlib.Core.Path.{_≡_, sym, _∙_, subst}
-use mathlib.Core.Bool.{false, true≢false}
+use mathlib.Core.Path.{_≡_, refl, sym, _∙_, subst}
+use mathlib.Core.Bool.{Bool, true, false, _&&_, true≢false}
 use mathlib.Core.List.{List, [], _∷_}
 use mathlib.Core.Logic.{_⊎_, inl, inr, ⊎-elim}
 use native.Mathlib.Omega.{arith}
 use native.Mathlib.Nat.{not-suc-le-zero, le-of-suc-le-suc}
 use native.Mathlib.Decide.{decLt}
-use lib.Dec.{eqb, ltb}
+use lib.Dec.{T, eqb, ltb}
 use lib.ListN.{length, getD, take, drop}
 use borrow.Author.Tests.{eq-eqb, ne-eqb, eqb-true, ltb-true, lt-leb, le-leb}
-use Rattle.basics.proofs.Choice.{cond-ind}
+use Rattle.basics.specs.Between.{between}
+use Rattle.basics.proofs.Choice.{cond-ind, and-left, and-right, between-true}
 use Rattle.utf8.specs.declared.Char.{Char}
 use Rattle.utf8.specs.Chars.{ended, chars, widths}
 use Rattle.utf8.proofs.Places.{ascii-widths}
+use Rattle.token.proofs.Ranges.{true-of}
 use Rattle.digits.specs.Digit.{digitVal}
 use Rattle.quotes.specs.declared.numeral.Numeral.{Numeral}
 use Rattle.quotes.specs.declared.Escaped.{Escaped}
 use Rattle.quotes.specs.Numeral.{numeral}
-use Rattle.quotes.specs.Escape.{letter, following, octalEscape, hexEscape, escapeOf}
+use Rattle.quotes.specs.Escape.{lookup, letters, letter, following, octalEscape, hexEscape, escapeOf}
 
 -- n characters stand at the head of a list, and P holds of the code of each
 abbrev pub Heads : (ℕ → Type 0) → ℕ → List Char → Type 0
@@ -62,28 +64,25 @@ digit-out c o =
 digit-in : (c : ℕ) → digitVal c < 16 → (48 ≤ c) × (c ≤ 122)
 digit-in c d = within c (λ o. omega (arith, digit-out c o))
 
+-- a table of such characters gives nothing to others
+abbrev allInside : List (ℕ × ℕ) → Bool
+allInside [] = true
+allInside (row ∷ rows) = between 48 (row .0) 122 && allInside rows
+
+lookup-out : (rows : List (ℕ × ℕ)) → T (allInside rows) → (c : ℕ) → Out c → lookup c rows ≡ 0
+lookup-out [] t c o = refl
+lookup-out (row ∷ rows) t c o =
+    let key = between-true 48 (row .0) 122 (true-of _ (and-left (between 48 (row .0) 122) (allInside rows) t)) in
+    let rest = lookup-out rows (and-right (between 48 (row .0) 122) (allInside rows) t) c o in
+    rw (ne-eqb c (row .0) (apart c (row .0) (key .0) (key .1) o)) rest
+
 letter-out : (c : ℕ) → Out c → letter c ≡ 0
-unfolding letter
-letter-out c o =
-    simp (
-      ne-eqb c 97 (apart c 97 (omega arith) (omega arith) o),
-      ne-eqb c 98 (apart c 98 (omega arith) (omega arith) o),
-      ne-eqb c 102 (apart c 102 (omega arith) (omega arith) o),
-      ne-eqb c 110 (apart c 110 (omega arith) (omega arith) o),
-      ne-eqb c 114 (apart c 114 (omega arith) (omega arith) o),
-      ne-eqb c 116 (apart c 116 (omega arith) (omega arith) o),
-      ne-eqb c 118 (apart c 118 (omega arith) (omega arith) o),
-      ne-eqb c 92 (apart c 92 (omega arith) (omega arith) o),
-    )
+unfolding letter letters
+letter-out = lookup-out letters tt
 
 following-out : (c : ℕ) → Out c → following c ≡ 0
 unfolding following
-following-out c o =
-    simp (
-      ne-eqb c 120 (apart c 120 (omega arith) (omega arith) o),
-      ne-eqb c 117 (apart c 117 (omega arith) (omega arith) o),
-      ne-eqb c 85 (apart c 85 (omega arith) (omega arith) o),
-    )
+following-out = lookup-out ((120, 2) ∷ (117, 4) ∷ (85, 8) ∷ []) tt
 
 -- a test that fails
 pub not-so : (a b : ℕ) → eqb a b ≡ false → a ≡ b → ⊥

@@ -13,17 +13,17 @@ use Rattle.quotes.specs.declared.Escaped.{Escaped}
 use Rattle.quotes.specs.declared.numeral.Numeral.{Numeral}
 use Rattle.quotes.specs.Numeral.{numeral}
 
+-- what a table gives to a character; 0 where it has none
+abbrev pub lookup : ℕ → List (ℕ × ℕ) → ℕ
+lookup c [] = 0
+lookup c (row ∷ rows) = cond (eqb c (row .0)) (row .1) (lookup c rows)
+
 -- the code that a b f n r t v, or a backslash, gives; 0 for any other character
+unfoldable pub letters : List (ℕ × ℕ)
+letters = (97, 7) ∷ (98, 8) ∷ (102, 12) ∷ (110, 10) ∷ (114, 13) ∷ (116, 9) ∷ (118, 11) ∷ (92, 92) ∷ []
+
 unfoldable pub letter : ℕ → ℕ
-letter c =
-    cond (eqb c 97) 7
-    (cond (eqb c 98) 8
-    (cond (eqb c 102) 12
-    (cond (eqb c 110) 10
-    (cond (eqb c 114) 13
-    (cond (eqb c 116) 9
-    (cond (eqb c 118) 11
-    (cond (eqb c 92) 92 0)))))))
+letter c = lookup c letters
 
 -- a byte by its digits; above 255 there is none, and no error either
 unfoldable pub byteOf : Numeral → Given
@@ -42,7 +42,7 @@ octalEscape r = record { len = numeral 8 3 0 r .len; given = byteOf (numeral 8 3
 
 -- how many hexadecimal digits follow x, u or U; 0 for any other character
 unfoldable pub following : ℕ → ℕ
-following c = cond (eqb c 120) 2 (cond (eqb c 117) 4 (cond (eqb c 85) 8 0))
+following c = lookup c ((120, 2) ∷ (117, 4) ∷ (85, 8) ∷ [])
 
 -- the escape of hexadecimal digits, by its first character and what follows it; error 9 where it is none
 unfoldable pub hexEscape : ℕ → List Char → Escaped
