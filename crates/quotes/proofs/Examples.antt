@@ -7,7 +7,7 @@ use Rattle.basics.specs.Spelling.{spelled}
 use Rattle.utf8.specs.Chars.{chars, charsFrom, firstChar, octets, encode}
 use Rattle.digits.specs.Digit.{digitVal}
 use Rattle.quotes.specs.Numeral.{numeral}
-use Rattle.quotes.specs.Escape.{letter, letters, byteOf, codeOf, octalEscape, following, hexEscape, escapeOf}
+use Rattle.quotes.specs.Escape.{letter, byteOf, codeOf, octalEscape, following, hexEscape, escapeOf}
 use Rattle.quotes.specs.Body.{Body, bodyFrom, body, placed, quotedAt}
 use Rattle.quotes.specs.Literal.{charKind, charError}
 
@@ -37,5 +37,5 @@ pub examples :
     × (charError (character (spelled "ab")) ≡ 8)
     × (string (spelled "\\u00e9\\n\"") .value ≡ 0xC3 ∷ 0xA9 ∷ 10 ∷ [])
     × (quotedAt 34 (0x78 ∷ 0xFF ∷ 34 ∷ []) 0 ≡ record { end = 3; chars = 3; closed = true; error = 0; count = 2; code = 0x78; escaped = false; strays = 1; bytes = 2 })
-unfolding charsFrom firstChar octets encode digitVal numeral letter letters byteOf codeOf octalEscape following hexEscape escapeOf bodyFrom placed
+unfolding charsFrom firstChar octets encode digitVal numeral letter byteOf codeOf octalEscape following hexEscape escapeOf bodyFrom placed
 examples = (refl, refl, refl, refl, refl, refl, refl, refl, refl, refl, refl, refl, refl, refl)

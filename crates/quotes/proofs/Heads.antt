@@ -77,7 +77,7 @@ lookup-out (row ∷ rows) t c o =
     rw (ne-eqb c (row .0) (apart c (row .0) (key .0) (key .1) o)) rest
 
 letter-out : (c : ℕ) → Out c → letter c ≡ 0
-unfolding letter letters
+unfolding letter
 letter-out = lookup-out letters tt
 
 following-out : (c : ℕ) → Out c → following c ≡ 0

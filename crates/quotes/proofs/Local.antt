@@ -16,7 +16,7 @@ use Rattle.digits.specs.Digit.{digitVal}
 use Rattle.quotes.specs.declared.Given.{Given}
 use Rattle.quotes.specs.declared.Given.the-variants.{Value, Bad}
 use Rattle.quotes.specs.Numeral.{numeral}
-use Rattle.quotes.specs.Escape.{letter, letters, following, octalEscape, hexEscape, escapeOf}
+use Rattle.quotes.specs.Escape.{letter, following, octalEscape, hexEscape, escapeOf}
 use Rattle.quotes.specs.Body.{Body, escape, bodyFrom, body}
 use Rattle.quotes.proofs.Heads.{Heads, not-so, heads-bound, heads-at, escape-heads}
 
@@ -73,7 +73,7 @@ numeral-local base l (c ∷ r) t h (suc n) v =
     ⊎-elim (λ (is : c .code ≡ 10). rw (is, le-ltb 16 base l)) (λ (k : Ends r). rw (numeral-local base l r t k n (v * base + digitVal (c .code)))) (next c r h)
 
 escape-local : (quote : ℕ) (r t : List Char) → Ends r → escapeOf quote (r ++ t) ≡ escapeOf quote r
-unfolding escapeOf octalEscape hexEscape letter letters following digitVal
+unfolding escapeOf octalEscape hexEscape letter following digitVal
 escape-local quote [] t h = absurd h
 escape-local quote (c ∷ r) t h =
     ⊎-elim (λ (is : c .code ≡ 10). rw is)

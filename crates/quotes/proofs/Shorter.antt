@@ -56,7 +56,7 @@ lookup-low c (row ∷ rows) t =
     (λ _. ltb-true (row .1) 0x80 (true-of _ (and-left (ltb (row .1) 0x80) (allLow rows) t))) (λ _. lookup-low c rows (and-right (ltb (row .1) 0x80) (allLow rows) t))
 
 letter-low : (c : ℕ) → letter c < 0x80
-unfolding letter letters
+unfolding letter
 letter-low c = lookup-low c letters tt
 
 abbrev Shorter : Escaped → Type 0

@@ -19,7 +19,7 @@ lookup c [] = 0
 lookup c (row ∷ rows) = cond (eqb c (row .0)) (row .1) (lookup c rows)
 
 -- the code that a b f n r t v, or a backslash, gives; 0 for any other character
-unfoldable pub letters : List (ℕ × ℕ)
+abbrev pub letters : List (ℕ × ℕ)
 letters = (97, 7) ∷ (98, 8) ∷ (102, 12) ∷ (110, 10) ∷ (114, 13) ∷ (116, 9) ∷ (118, 11) ∷ (92, 92) ∷ []
 
 unfoldable pub letter : ℕ → ℕ
