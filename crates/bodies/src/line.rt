@@ -43,7 +43,7 @@ fn comment_end(src: &[u8], at: usize) -> Stop
         if b == 10 {
             break Stop::End { lf: true };
         }
-        p += utf8::char_at(src, p).width;
+        p = reader::place_after(src, p);
         if star & (b == 47) {
             break Stop::Closed(p);
         }
