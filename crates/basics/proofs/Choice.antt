@@ -1,7 +1,7 @@
 -- Laws of a choice by a test, of two tests at once, and of a number between two others.
 use Prim.Native.Nat.{ℕ, _≤_, _<_}
 use mathlib.Core.Path.{_≡_, refl, subst, sym}
-use mathlib.Core.Bool.{Bool, true, false, cond, _&&_, Bool·beq, false≢true}
+use mathlib.Core.Bool.{Bool, true, false, cond, _&&_, _||_, Bool·beq, true≢false, false≢true}
 use mathlib.Core.Logic.{_⊎_, inl, inr}
 use lib.Dec.{T, leb, leb→le}
 use borrow.Author.Tests.{le-leb, lt-leb}
@@ -24,6 +24,11 @@ pub either : (t : Bool) → (t ≡ true) ⊎ (t ≡ false)
 either true = inl refl
 either false = inr refl
 
+-- a test that computes holds
+pub true-of : (b : Bool) → T b → b ≡ true
+true-of true t = refl
+true-of false t = absurd t
+
 pub and-left : (a b : Bool) → T (a && b) → T a
 and-left true b t = tt
 and-left false b t = t
@@ -35,6 +40,11 @@ and-right false b t = absurd t
 pub and-split : (a b : Bool) → a && b ≡ true → (a ≡ true) × (b ≡ true)
 and-split true b e = (refl, e)
 and-split false b e = absurd (false≢true e)
+
+-- neither of two tests holds
+pub none-of : (a b : Bool) → a || b ≡ false → (a ≡ false) × (b ≡ false)
+none-of true b e = absurd (true≢false e)
+none-of false b e = (refl, e)
 
 pub and-no : (a : Bool) → a && false ≡ false
 and-no true = refl

@@ -10,7 +10,7 @@ use lib.Dec.{ltb, leb, eqb}
 use lib.ListN.{length, getD, take, drop, length-drop}
 use lib.Seq.{take-suc, getD-drop}
 use borrow.Author.Tests.{ltb-false, leb-true, le-leb, lt-leb, ne-eqb, not-true}
-use Rattle.basics.proofs.Choice.{and-split}
+use Rattle.basics.proofs.Choice.{and-split, none-of}
 use Rattle.basics.proofs.Lists.{drop-next}
 use Rattle.utf8.specs.declared.Char.{Char}
 use Rattle.utf8.specs.Chars.{charAt}
@@ -19,10 +19,6 @@ use Rattle.bodies.specs.Span.{Span, more, toStarSlash}
 use Rattle.bodies.specs.Body.{grown}
 use Rattle.bodies.specs.Plain.{special, anySpecial, plainBlock, PlainRun}
 use Rattle.bodies.proofs.Bodies.{Reading, reading-next, grown-ascii, same-body, slash-more}
-
-or-split : (a b : Bool) → a || b ≡ false → (a ≡ false) × (b ≡ false)
-or-split true b e = absurd (true≢false e)
-or-split false b e = (refl, e)
 
 -- ---- the test of a block
 any-snoc : (x : ℕ) (s : List ℕ) (b : ℕ) → anySpecial x (s ++ (b ∷ [])) ≡ anySpecial x s || special x b
@@ -65,8 +61,8 @@ skipped b n =
 one-plain : (x : ℕ) (s : List ℕ) (b : Body) → b .end < length s → b .closed ≡ false → special x (getD s (b .end) 0) ≡ false → skipped b 1 ≡ grown b (charAt s (b .end)) false
 one-plain x s b h k e =
     let y = getD s (b .end) 0 in
-    let q = or-split (ltb y 14 || ltb 127 y) (eqb y x) e in
-    let r = or-split (ltb y 14) (ltb 127 y) (q .0) in
+    let q = none-of (ltb y 14 || ltb 127 y) (eqb y x) e in
+    let r = none-of (ltb y 14) (ltb 127 y) (q .0) in
     let low = ltb-false y 14 (r .0) in
     let high = ltb-false 127 y (r .1) in
     same-body refl refl k (sym (add-zero _)) (sym (add-zero _)) refl
@@ -84,8 +80,8 @@ module _ (w : Body) (f : List Char → Span) (x : ℕ) (s : List ℕ)
   reading-plain zero b h i = rw (add-zero (b .end), add-zero (b .chars)) i
   reading-plain (suc n) b h i =
       let l : b .end < length s = omega arith in
-      let q = or-split (special x (getD s (b .end) 0)) (anySpecial x (take n (drop (b .end + 1) s))) (rw (drop-next s (b .end) 0 l) at (h .plain)) in
-      let k = or-split (ltb (getD s (b .end) 0) 14 || ltb 127 (getD s (b .end) 0)) (eqb (getD s (b .end) 0) x) (q .0) in
+      let q = none-of (special x (getD s (b .end) 0)) (anySpecial x (take n (drop (b .end + 1) s))) (rw (drop-next s (b .end) 0 l) at (h .plain)) in
+      let k = none-of (ltb (getD s (b .end) 0) 14 || ltb 127 (getD s (b .end) 0)) (eqb (getD s (b .end) 0) x) (q .0) in
       let j = reading-next w f s b i l (skipped b 1) false (one-plain x s b l (i .not-yet) (q .0)) refl f (on (b .end) l (k .1)) in
       let a : (m : ℕ) → m + 1 + n ≡ m + suc n = λ m. omega arith in
       rw (a (b .end), a (b .chars)) at (reading-plain n (skipped b 1) (record { fits = omega arith; plain = q .1 }) j)

@@ -4,6 +4,7 @@ use mathlib.Core.Path.{_≡_}
 use mathlib.Core.Bool.{Bool, cond}
 use mathlib.Core.List.{List}
 use native.Mathlib.Omega.{arith}
+use native.Mathlib.Decide.{decLt}
 use lib.Dec.{ltb, eqb, eqb→eq}
 use lib.ListN.{length, getD, drop}
 use borrow.Author.Tests.{lt-leb, le-leb}
@@ -29,6 +30,9 @@ pub digit-high : (c : ℕ) → 128 ≤ c → digitVal c ≡ 16
 unfolding digitVal
 digit-high c h =
     simp (le-leb 48 c (omega arith), lt-leb c 57 (omega arith), le-leb 97 c (omega arith), lt-leb c 102 (omega arith), le-leb 65 c (omega arith), lt-leb c 70 (omega arith))
+
+pub digit-low : (c : ℕ) → digitVal c < 16 → c < 0x80
+digit-low c l = elim (decLt c 0x80) [ yes k ↦ k | no k ↦ absurd (omega (arith, digit-high c (omega arith))) ]
 
 -- the digit at a place may be read off the byte there
 pub digit-there : (s : List ℕ) (p : ℕ) → p < length s → digitVal (firstChar (drop p s) .code) ≡ digitVal (getD s p 0)

@@ -205,10 +205,6 @@ module _ (mark : Bool) (s : List ℕ) (at : ℕ) (h : at < length s) where
           (either (eqb (getD s at 0) 46))
 
 -- ---- what the tests say
-pub none-of : (a b : Bool) → a || b ≡ false → (a ≡ false) × (b ≡ false)
-none-of true b e = absurd (true≢false e)
-none-of false b e = (refl, e)
-
 one-of : (a b : Bool) → a || b ≡ true → (a ≡ true) ⊎ (b ≡ true)
 one-of true b e = inl refl
 one-of false b e = inr e

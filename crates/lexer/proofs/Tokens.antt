@@ -11,7 +11,7 @@ use lib.ListN.{length, getD, take, drop, length-drop}
 use lib.Seq.{length-take-le, take-all}
 use borrow.Author.Tests.{ne-eqb, eq-eqb, eqb-true, ltb-true}
 use Rattle.basics.specs.Same.{same}
-use Rattle.basics.proofs.Choice.{cond-ind, either, and-left, and-right, and-split}
+use Rattle.basics.proofs.Choice.{cond-ind, either, and-left, and-right, and-split, true-of}
 use Rattle.basics.proofs.Lists.{same-length}
 use Rattle.utf8.specs.declared.Char.{Char}
 use Rattle.utf8.specs.Chars.{ended, firstChar, charAt, chars, widths, isStray, encode, encoded}
@@ -21,7 +21,6 @@ use Rattle.utf8.proofs.Runs.{run-bound, run-passes, run-no-feed}
 use Rattle.utf8.proofs.Encoding.{first-coded}
 use Rattle.token.specs.Kinds.{ILLEGAL, IDENT, STRING}
 use Rattle.token.specs.Table.{Row, operators, identToken}
-use Rattle.token.proofs.Ranges.{true-of}
 use Rattle.words.specs.Word.{isWord, wordLen}
 use Rattle.words.proofs.Words.{word-high, word-run, feed-no-word}
 use Rattle.quotes.proofs.Places.{stray-there}

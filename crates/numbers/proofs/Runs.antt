@@ -18,7 +18,7 @@ use Rattle.utf8.specs.Chars.{ended, chars}
 use Rattle.utf8.proofs.First.{chars-at, chars-end, chars-ascii}
 use Rattle.utf8.proofs.Places.{code-there, ascii-place}
 use Rattle.digits.specs.Digit.{digitVal}
-use Rattle.digits.proofs.Digits.{digit-high, digit-there}
+use Rattle.digits.proofs.Digits.{digit-low, digit-there}
 use Rattle.numbers.specs.Run.{Run, stop, more, digitRun, strictRun, digitsAt}
 
 -- one character on from a place
@@ -27,10 +27,6 @@ digits-more p d = let e : p + suc (d .len) ≡ p + 1 + d .len = omega arith in r
 
 pub digits-stop : (p : ℕ) (u : Bool) → digitsAt p (stop u) ≡ record { end = p; misplaced = u }
 digits-stop p u = rw (add-zero p)
-
--- a digit is an ASCII character
-digit-low : (c : ℕ) → digitVal c < 16 → c < 0x80
-digit-low c l = elim (decLt c 0x80) [ yes k ↦ k | no k ↦ absurd (omega (arith, digit-high c (omega arith))) ]
 
 module _ (base : ℕ) (s : List ℕ) (p : ℕ) where
   pub run-end : (u : Bool) → length s ≤ p → digitRun base u (chars (drop p s)) ≡ stop u

@@ -9,7 +9,7 @@ use native.Mathlib.Decide.{decLt}
 use lib.Dec.{T, eqb, ltb}
 use lib.ListN.{length, getD, drop, List·getD-eq-default}
 use borrow.Author.Tests.{ne-eqb, eqb-true, ltb-true}
-use Rattle.basics.proofs.Choice.{either, and-left, and-right}
+use Rattle.basics.proofs.Choice.{either, and-left, and-right, true-of}
 use Rattle.utf8.specs.Chars.{chars}
 use Rattle.utf8.proofs.First.{chars-at, chars-end, chars-ascii}
 use Rattle.utf8.proofs.Places.{code-there}
@@ -31,17 +31,13 @@ abbrev low : List ℕ → Bool
 low [] = true
 low (x ∷ xs) = (ltb 0 x && ltb x 128) && low xs
 
-pub T-true : (b : Bool) → T b → b ≡ true
-T-true true t = refl
-T-true false t = absurd t
-
 begins-bytes : (xs s : List ℕ) (p : ℕ) → T (low xs) → begins xs (chars (drop p s)) ≡ starts xs s p
 unfolding begins
 begins-bytes [] s p l = refl
 begins-bytes (x ∷ xs) s p l =
     let l1 = and-left (ltb 0 x && ltb x 128) (low xs) l in
-    let some : 0 < x = ltb-true 0 x (T-true _ (and-left (ltb 0 x) (ltb x 128) l1)) in
-    let less : x < 128 = ltb-true x 128 (T-true _ (and-right (ltb 0 x) (ltb x 128) l1)) in
+    let some : 0 < x = ltb-true 0 x (true-of _ (and-left (ltb 0 x) (ltb x 128) l1)) in
+    let less : x < 128 = ltb-true x 128 (true-of _ (and-right (ltb 0 x) (ltb x 128) l1)) in
     let ih = begins-bytes xs s (p + 1) (and-right (ltb 0 x && ltb x 128) (low xs) l) in
     elim (decLt p (length s)) [
       | yes h ↦

@@ -6,7 +6,7 @@ use mathlib.Core.List.{List, [], _∷_}
 use lib.Dec.{T, eqb}
 use lib.ListN.{length, getD, drop}
 use borrow.Author.Tests.{eq-eqb, ne-eqb}
-use Rattle.basics.proofs.Choice.{and-left, and-right}
+use Rattle.basics.proofs.Choice.{and-left, and-right, true-of}
 use Rattle.utf8.specs.Chars.{chars}
 use Rattle.utf8.proofs.First.{chars-end}
 use Rattle.token.specs.Kinds.{LSS, LEQ, SHL, SHL-ASSIGN, ARROW, AND, AND-ASSIGN, AND-NOT, AND-NOT-ASSIGN, LAND, GTR, GEQ, SHR, SHR-ASSIGN, PERIOD, ELLIPSIS}
@@ -14,7 +14,7 @@ use Rattle.token.specs.Table.{Row, operators}
 use Rattle.token.specs.Table as table
 use Rattle.operators.specs.Longest.{begins, op, none, longest, operatorOf}
 use Rattle.operators.specs.Second.{lessBy, greaterBy, andBy, periodBy}
-use Rattle.operators.proofs.Leading.{best, starts, T-true, leads, among, best-among, table-bytes}
+use Rattle.operators.proofs.Leading.{best, starts, leads, among, best-among, table-bytes}
 
 -- a row of the table, by its codes
 abbrev pub row : ℕ → List ℕ → Row
@@ -191,7 +191,7 @@ allListed ks (row ∷ rows) = listed ks (row .name) && allListed ks rows
 
 no-leads : (a : ℕ) (ks xs : List ℕ) → elem a ks ≡ false → T (listed ks xs) → leads a xs ≡ false
 no-leads a ks [] n t = absurd t
-no-leads a ks (x ∷ xs) n t = ne-eqb a x (λ e. false≢true (sym n ∙ ap (λ y. elem y ks) e ∙ T-true (elem x ks) t))
+no-leads a ks (x ∷ xs) n t = ne-eqb a x (λ e. false≢true (sym n ∙ ap (λ y. elem y ks) e ∙ true-of (elem x ks) t))
 
 no-rows : (a : ℕ) (ks : List ℕ) (rows : List Row) → elem a ks ≡ false → T (allListed ks rows) → among a rows ≡ []
 no-rows a ks [] n t = refl

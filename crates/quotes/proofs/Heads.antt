@@ -11,11 +11,10 @@ use lib.Dec.{T, eqb, ltb}
 use lib.ListN.{length, getD, take, drop}
 use borrow.Author.Tests.{eq-eqb, ne-eqb, eqb-true, ltb-true, lt-leb, le-leb}
 use Rattle.basics.specs.Between.{between}
-use Rattle.basics.proofs.Choice.{cond-ind, and-left, and-right, between-true}
+use Rattle.basics.proofs.Choice.{cond-ind, and-left, and-right, between-true, true-of}
 use Rattle.utf8.specs.declared.Char.{Char}
 use Rattle.utf8.specs.Chars.{ended, chars, widths}
 use Rattle.utf8.proofs.Places.{ascii-widths}
-use Rattle.token.proofs.Ranges.{true-of}
 use Rattle.digits.specs.Digit.{digitVal}
 use Rattle.quotes.specs.declared.numeral.Numeral.{Numeral}
 use Rattle.quotes.specs.declared.Escaped.{Escaped}

@@ -5,7 +5,6 @@ use mathlib.Core.List.{List, [], _∷_}
 use native.Mathlib.Omega.{arith}
 use native.Mathlib.Numerals.{add-one}
 use native.Mathlib.Nat.{add-zero, pow-suc, pow-le-pow-right, mul-le-mul, suc-mul}
-use native.Mathlib.Decide.{decLt}
 use lib.Dec.{ltb}
 use lib.ListN.{length, getD, drop}
 use borrow.Author.Tests.{lt-ltb, le-ltb}
@@ -14,7 +13,7 @@ use Rattle.utf8.specs.declared.Char.{Char}
 use Rattle.utf8.specs.Chars.{chars}
 use Rattle.utf8.proofs.First.{chars-at, chars-end, chars-ascii}
 use Rattle.digits.specs.Digit.{digitVal}
-use Rattle.digits.proofs.Digits.{digit-high, digit-there}
+use Rattle.digits.proofs.Digits.{digit-low, digit-there}
 use Rattle.quotes.specs.declared.numeral.Numeral.{Numeral}
 use Rattle.quotes.specs.Numeral.{stop, more, numeral}
 
@@ -30,10 +29,6 @@ grown-more at p d h = let e : p - at + suc (d .len) ≡ p + 1 - at + d .len = om
 
 pub grown-stop : (n v e : ℕ) → grown n (stop v e) ≡ record { value = v; len = n; error = e }
 grown-stop n v e = rw (add-zero n)
-
--- a digit below a base up to 16 is an ASCII byte
-digit-low : (s : List ℕ) (p base : ℕ) → digitVal (getD s p 0) < base → base ≤ 16 → getD s p 0 < 0x80
-digit-low s p base d l = elim (decLt (getD s p 0) 0x80) [ yes k ↦ k | no k ↦ absurd (omega (arith, digit-high (getD s p 0) (omega arith))) ]
 
 one-less : (n : ℕ) → 0 < n → n ≡ suc (n - 1)
 one-less n h = omega arith
@@ -59,7 +54,7 @@ module _ (base left : ℕ) (s : List ℕ) (p v : ℕ) (some : 0 < left) (h : p <
       → numeral base left v (chars (drop p s)) ≡ more (numeral base (left - 1) (v * base + digitVal (getD s p 0)) (chars (drop (p + 1) s)))
   unfolding numeral
   numeral-digit d l =
-      ap (λ n. numeral base n v (chars (drop p s))) (one-less left some) ∙ rw (chars-ascii s p h (digit-low s p base d l), lt-ltb _ _ d)
+      ap (λ n. numeral base n v (chars (drop p s))) (one-less left some) ∙ rw (chars-ascii s p h (digit-low (getD s p 0) (omega (arith, d, l))), lt-ltb _ _ d)
 
 -- no more digits than asked for
 pub numeral-len : (base n v : ℕ) (r : List Char) → numeral base n v r .len ≤ n

@@ -8,10 +8,9 @@ use lib.Dec.{T, eqb, ltb, lit≤, lit<}
 use lib.ListN.{length}
 use borrow.Author.Tests.{eqb-true, ltb-true, lt-ltb}
 use Rattle.basics.specs.Between.{between}
-use Rattle.basics.proofs.Choice.{cond-ind, and-left, and-right}
+use Rattle.basics.proofs.Choice.{cond-ind, and-left, and-right, true-of}
 use Rattle.utf8.specs.declared.Char.{Char}
 use Rattle.utf8.specs.Chars.{octets, encode}
-use Rattle.token.proofs.Ranges.{true-of}
 use Rattle.digits.specs.Digit.{digitVal}
 use Rattle.quotes.specs.declared.Given.{Given}
 use Rattle.quotes.specs.declared.Escaped.{Escaped}

@@ -12,14 +12,13 @@ use borrow.Author.Tests.{ne-eqb, eqb-true, eqb-false, ltb-true, leb-true, leb-fa
 use Rattle.basics.specs.Between.{between}
 use Rattle.basics.specs.Same.{same}
 use Rattle.basics.specs.Spelling.{spelled}
-use Rattle.basics.proofs.Choice.{either, cond-ind, and-left, and-right, between-true, below-it, above-it}
+use Rattle.basics.proofs.Choice.{either, cond-ind, and-left, and-right, between-true, below-it, above-it, true-of}
 use Rattle.basics.proofs.Every.{every-below}
 use Rattle.basics.proofs.Lists.{reach, same-true}
 use Rattle.utf8.specs.declared.Char.{Char}
 use Rattle.utf8.specs.Chars.{chars}
 use Rattle.token.specs.Kinds.{ILLEGAL, EOF, IDENT, STRING, ADD, LPAREN, LBRACK, LBRACE, COMMA, PERIOD, RPAREN, RBRACK, RBRACE, SEMICOLON, COLON, BREAK, VAR}
 use Rattle.token.specs.Table.{Row, operators, identToken}
-use Rattle.token.proofs.Ranges.{true-of}
 use Rattle.token.proofs.Words.{word-kind}
 use Rattle.words.specs.Word.{isLetter}
 use Rattle.operators.specs.declared.Operator.{Operator}
@@ -36,7 +35,7 @@ use Rattle.lexer.specs.Placed.{placed, said}
 use Rattle.lexer.proofs.Said.{semicolon-said}
 use Rattle.lexer.proofs.Tokens.{operator-fits, operator-said}
 use Rattle.lexer.proofs.Opened.{open-chars}
-use Rattle.lexer.proofs.Dispatch.{none-of, word-is, feed-is, operator-is}
+use Rattle.lexer.proofs.Dispatch.{word-is, feed-is, operator-is}
 use Rattle.scanner.specs.Simple.{isOneOf, startsOperator, firstKind, IsTable}
 
 -- ---- what a byte tells, by computing each

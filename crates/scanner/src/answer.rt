@@ -35,22 +35,29 @@ pub struct Scanned {
     pub token: Token,
 }
 
-pub(crate) fn refused(number: u8, state: State) -> Scanned
-    ensures { λ r. ⌜ r ≡ record { refusal = number; state = state; token = noToken } ⌝ }
+// No token: what a scan gives that is refused or not done.
+pub(crate) fn no_token() -> Token
+    ensures { λ r. ⌜ r ≡ noToken ⌝ }
 {
     let none = Part {
         area: false,
         start: 0,
         end: 0,
     };
-    let token = Token {
+    Token {
         kind: token::NONE,
         inserted: false,
         position: 0,
         code: 0,
         text: none,
         value: none,
-    };
+    }
+}
+
+pub(crate) fn refused(number: u8, state: State) -> Scanned
+    ensures { λ r. ⌜ r ≡ record { refusal = number; state = state; token = noToken } ⌝ }
+{
+    let token = no_token();
     Scanned {
         refusal: number,
         state,

@@ -1,10 +1,10 @@
 // Quick scans: of tokens that show the source's own bytes and end before the size, where the table has room. What they do not do, they leave as it was.
 use crate::answer::Token;
+use crate::answer::no_token;
 use crate::answer::plain_token;
 use crate::scanning::is_plain;
 use blanks::Skipped;
 use lexer::Lexed;
-use state::Part;
 use state::State;
 ghost use mathlib.Core.Path.{_≡_};
 ghost use mathlib.Core.Bool.{true};
@@ -26,22 +26,11 @@ pub(crate) struct Tried {
 fn not_done(state: State) -> Tried
     ensures { λ r. ⌜ r ≡ notDone state ⌝ }
 {
-    let none = Part {
-        area: false,
-        start: 0,
-        end: 0,
-    };
+    let token = no_token();
     Tried {
         done: false,
         state,
-        token: Token {
-            kind: token::NONE,
-            inserted: false,
-            position: 0,
-            code: 0,
-            text: none,
-            value: none,
-        },
+        token,
     }
 }
 

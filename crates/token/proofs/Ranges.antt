@@ -5,12 +5,8 @@ use mathlib.Core.Bool.{Bool, true, false, Bool·beq}
 use native.Mathlib.Omega.{arith}
 use lib.Dec.{T, eqb, eqb→eq}
 use Rattle.basics.specs.Between.{between}
-use Rattle.basics.proofs.Choice.{same-test}
+use Rattle.basics.proofs.Choice.{same-test, true-of}
 use Rattle.basics.proofs.Every.{below, every-below}
-
-pub true-of : (b : Bool) → T b → b ≡ true
-true-of true t = refl
-true-of false t = absurd t
 
 -- the test f passes at each of the n numbers from lo on
 pub every-within : (f : ℕ → Bool) (lo n : ℕ) → T (below (λ j. f (lo + j)) n) → (k : ℕ) → lo ≤ k → k < lo + n → T (f k)

@@ -5,12 +5,13 @@ use mathlib.Core.Bool.{Bool}
 use mathlib.Core.List.{[]}
 use lib.Dec.{eqb, eqb→eq}
 use lib.ListN.{getD}
+use Rattle.basics.proofs.Choice.{true-of}
 use Rattle.basics.specs.Same.{same}
 use Rattle.basics.proofs.Every.{every-entry}
 use Rattle.basics.proofs.Lists.{same-true}
 use Rattle.token.specs.Kinds.{NONE}
 use Rattle.token.specs.Table.{Row, other, table, specials, operators, keywords, rowOf, nameOf}
-use Rattle.token.proofs.Ranges.{true-of, every-within}
+use Rattle.token.proofs.Ranges.{every-within}
 
 -- stands for the row past the end
 abbrev pub none : Row

@@ -10,12 +10,11 @@ use lib.ListN.{length, getD}
 use Rattle.basics.specs.Between.{between}
 use Rattle.basics.specs.Same.{same}
 use Rattle.basics.specs.Spelling.{spelled}
-use Rattle.basics.proofs.Choice.{either, and-left, and-right}
+use Rattle.basics.proofs.Choice.{either, and-left, and-right, true-of}
 use Rattle.basics.proofs.Every.{every-entry}
 use Rattle.basics.proofs.Lists.{same-true}
 use Rattle.token.specs.Kinds.{IDENT, BREAK, FALLTHROUGH, INTERFACE, VAR}
 use Rattle.token.specs.Table.{Row, keywords, kindNamed, identToken}
-use Rattle.token.proofs.Ranges.{true-of}
 use Rattle.token.proofs.Table.{none}
 
 -- a word is the name of a row of a list

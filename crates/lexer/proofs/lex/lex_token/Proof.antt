@@ -6,6 +6,7 @@ use native.Mathlib.Nat.{add-zero}
 use lib.ListN.{getD, drop}
 use borrow.Author.Tests.{ne-eqb}
 use borrow.Author.Needs.{needs}
+use Rattle.basics.proofs.Choice.{none-of}
 use Rattle.utf8.specs.Chars.{chars}
 use Rattle.token.specs.Kinds.{EOF}
 use Rattle.digits.specs.Digit.{isDecimal}
@@ -13,7 +14,7 @@ use Rattle.lexer.specs.Placed.{said, placed}
 use Rattle.lexer.proofs.Said.{semicolon-said}
 use Rattle.lexer.proofs.Ascii.{ascii-none}
 use Rattle.lexer.proofs.Tokens.{bare-said}
-use Rattle.lexer.proofs.Dispatch.{none-of, end-marked, end-unmarked, word-is, number-is, feed-is, string-is, char-is, raw-is, other-is}
+use Rattle.lexer.proofs.Dispatch.{end-marked, end-unmarked, word-is, number-is, feed-is, string-is, char-is, raw-is, other-is}
 use Rattle.lexer.proofs.lex.lex_token.Statement.{statement}
 use Rattle.lexer.proofs.lex.lex_token.Tie as tie
 

@@ -6,8 +6,9 @@ use mathlib.Core.Logic.{_≢_, _⊎_, inl, inr, ⊎-elim}
 use native.Mathlib.Omega.{arith}
 use borrow.Author.Needs.{needs}
 use borrow.Author.Tests.{ne-eqb}
+use Rattle.basics.proofs.Choice.{true-of}
 use Rattle.token.specs.Kinds.{IDENT, INC, DEC, RPAREN, RBRACK, RBRACE, BREAK, CONTINUE, FALLTHROUGH, RETURN}
-use Rattle.token.proofs.Ranges.{true-of, every-within}
+use Rattle.token.proofs.Ranges.{every-within}
 use Rattle.lexer.specs.Lexeme.{setsMark}
 use Rattle.lexer.proofs.lexed.sets_mark.Statement.{statement}
 use Rattle.lexer.proofs.lexed.sets_mark.Tie as tie
