@@ -25,12 +25,14 @@ pub(crate) struct Next {
     pub(crate) mark: bool,
 }
 
-// What each first byte tells: the kind of a delimiter, IDENT for a letter, ADD for an operator, else ILLEGAL.
+// What each first byte tells: the kind of a delimiter, IDENT for a letter, ADD for an operator, INT for a digit, STRING for a double quote,
+// else ILLEGAL.
 pub(crate) fn first_kinds() -> [u8; 256]
     ensures { λ r. ⌜ IsTable r ⌝ }
 {
     let mut kinds = [token::ILLEGAL; 256];
     kinds[33] = token::ADD;
+    kinds[34] = token::STRING;
     kinds[37] = token::ADD;
     kinds[38] = token::ADD;
     kinds[40] = token::LPAREN;
@@ -55,6 +57,9 @@ pub(crate) fn first_kinds() -> [u8; 256]
     for b in 65..91usize {
         kinds[b] = token::IDENT;
         kinds[b + 32] = token::IDENT;
+    }
+    for b in 48..58usize {
+        kinds[b] = token::INT;
     }
     kinds
 }
