@@ -93,7 +93,7 @@ no-quote : (b : ℕ) → firstKind b ≢ STRING → eqb b 34 ≡ false
 unfolding firstKind startsOperator isLetter
 no-quote b n = ne-eqb b 34 (λ e. n (ap firstKind e))
 
-no-digit : (b : ℕ) → firstKind b ≢ INT → isDecimal b ≡ false
+pub no-digit : (b : ℕ) → firstKind b ≢ INT → isDecimal b ≡ false
 no-digit b n = ⊎-elim (λ (e : isDecimal b ≡ true). absurd (n (first-digit b e))) (λ e. e) (either (isDecimal b))
 
 delimiter-ind : (P : ℕ → Type 0) → P 40 → P 41 → P 44 → P 46 → P 59 → P 91 → P 93 → P 123 → P 125
@@ -112,7 +112,7 @@ delimiter-ind P lparen rparen comma period semicolon lbrack rbrack lbrace rbrace
     (rw (no-letter b i, no-operator b (no-letter b i) a) at n)
 
 -- a letter is past the digits and the point
-letter-past : (b : ℕ) → isLetter b ≡ true → 65 ≤ b
+pub letter-past : (b : ℕ) → isLetter b ≡ true → 65 ≤ b
 unfolding isLetter
 letter-past b t =
     elim (decLt b 65) [
