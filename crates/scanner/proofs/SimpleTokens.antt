@@ -17,8 +17,10 @@ use Rattle.basics.proofs.Every.{every-below}
 use Rattle.basics.proofs.Lists.{reach, same-true}
 use Rattle.utf8.specs.declared.Char.{Char}
 use Rattle.utf8.specs.Chars.{chars}
-use Rattle.token.specs.Kinds.{ILLEGAL, EOF, IDENT, STRING, ADD, LPAREN, LBRACK, LBRACE, COMMA, PERIOD, RPAREN, RBRACK, RBRACE, SEMICOLON, COLON, BREAK, VAR}
+use Rattle.digits.specs.Digit.{isDecimal}
+use Rattle.token.specs.Kinds.{ILLEGAL, EOF, IDENT, INT, STRING, ADD, LPAREN, LBRACK, LBRACE, COMMA, PERIOD, RPAREN, RBRACK, RBRACE, SEMICOLON, COLON, BREAK, VAR}
 use Rattle.token.specs.Table.{Row, operators, identToken}
+use Rattle.token.proofs.Ranges.{value-within}
 use Rattle.token.proofs.Words.{word-kind}
 use Rattle.words.specs.Word.{isLetter}
 use Rattle.operators.specs.declared.Operator.{Operator}
@@ -55,9 +57,15 @@ pub first-small : (b : ℕ) → b < 256 → firstKind b < 128
 unfolding firstKind startsOperator isLetter
 first-small b h = ltb-true (firstKind b) 128 (true-of _ (every-below (λ x. ltb (firstKind x) 128) 256 tt b h))
 
-pub first-no-string : (b : ℕ) → b < 256 → eqb (firstKind b) STRING ≡ false
+-- only a decimal digit tells a number
+pub digit-first : (b : ℕ) → b < 256 → firstKind b ≡ INT → isDecimal b ≡ true
 unfolding firstKind startsOperator isLetter
-first-no-string b h = not-true _ (true-of _ (every-below (λ x. not (eqb (firstKind x) STRING)) 256 tt b h))
+digit-first b h e =
+    rw (eq-eqb (firstKind b) INT e) at (true-of (not (eqb (firstKind b) INT) || isDecimal b) (every-below (λ x. not (eqb (firstKind x) INT) || isDecimal x) 256 tt b h))
+
+pub first-digit : (b : ℕ) → isDecimal b ≡ true → firstKind b ≡ INT
+unfolding firstKind startsOperator isLetter
+first-digit b d = let q = between-true 48 b 57 d in sym (value-within firstKind INT 48 10 tt b (q .0) (omega (arith, q .1)))
 
 pub first-known : (b : ℕ) → b < 256 → eqb (firstKind b) EOF ≡ false
 unfolding firstKind startsOperator isLetter
@@ -68,7 +76,7 @@ pub word-small : (kind : ℕ) (word : List ℕ) → kind ≡ identToken word →
 word-small kind word e =
     ⊎-elim (λ i. omega (arith, e, i)) (λ t. let q = between-true BREAK (identToken word) VAR t in omega (arith, e, q .1)) (word-kind word)
 
--- ---- what holds of each delimiter holds of a byte that tells neither nothing nor a word nor an operator
+-- ---- what holds of each delimiter holds of a byte that tells something, but no word, operator, string or number
 one-of : (P : ℕ → Type 0) (b x kind rest : ℕ) → P x → (rest ≢ ILLEGAL → P b) → cond (eqb b x) kind rest ≢ ILLEGAL → P b
 one-of P b x kind rest here more n =
     ⊎-elim (λ (e : eqb b x ≡ true). subst P (sym (eqb-true b x e)) here) (λ (e : eqb b x ≡ false). more (rw e at n)) (either (eqb b x))
@@ -81,10 +89,17 @@ no-operator : (b : ℕ) → isLetter b ≡ false → firstKind b ≢ ADD → sta
 unfolding firstKind
 no-operator b l n = ⊎-elim (λ (e : startsOperator b ≡ true). absurd (n (rw (l, e)))) (λ e. e) (either (startsOperator b))
 
+no-quote : (b : ℕ) → firstKind b ≢ STRING → eqb b 34 ≡ false
+unfolding firstKind startsOperator isLetter
+no-quote b n = ne-eqb b 34 (λ e. n (ap firstKind e))
+
+pub no-digit : (b : ℕ) → firstKind b ≢ INT → isDecimal b ≡ false
+no-digit b n = ⊎-elim (λ (e : isDecimal b ≡ true). absurd (n (first-digit b e))) (λ e. e) (either (isDecimal b))
+
 delimiter-ind : (P : ℕ → Type 0) → P 40 → P 41 → P 44 → P 46 → P 59 → P 91 → P 93 → P 123 → P 125
-    → (b : ℕ) → firstKind b ≢ ILLEGAL → firstKind b ≢ IDENT → firstKind b ≢ ADD → P b
+    → (b : ℕ) → firstKind b ≢ ILLEGAL → firstKind b ≢ IDENT → firstKind b ≢ ADD → firstKind b ≢ STRING → firstKind b ≢ INT → P b
 unfolding firstKind
-delimiter-ind P lparen rparen comma period semicolon lbrack rbrack lbrace rbrace b n i a =
+delimiter-ind P lparen rparen comma period semicolon lbrack rbrack lbrace rbrace b n i a q d =
     (one-of P b 40 LPAREN _ lparen
     (one-of P b 41 RPAREN _ rparen
     (one-of P b 44 COMMA _ comma
@@ -93,11 +108,11 @@ delimiter-ind P lparen rparen comma period semicolon lbrack rbrack lbrace rbrace
     (one-of P b 91 LBRACK _ lbrack
     (one-of P b 93 RBRACK _ rbrack
     (one-of P b 123 LBRACE _ lbrace
-    (one-of P b 125 RBRACE _ rbrace (λ z. absurd (z refl)))))))))))
+    (one-of P b 125 RBRACE _ rbrace (λ z. absurd (z (rw (no-quote b q, no-digit b d)))))))))))))
     (rw (no-letter b i, no-operator b (no-letter b i) a) at n)
 
 -- a letter is past the digits and the point
-letter-past : (b : ℕ) → isLetter b ≡ true → 65 ≤ b
+pub letter-past : (b : ℕ) → isLetter b ≡ true → 65 ≤ b
 unfolding isLetter
 letter-past b t =
     elim (decLt b 65) [
@@ -228,7 +243,7 @@ module _ (s : List ℕ) (at : ℕ) (mark : Bool) where
   unfolding firstKind startsOperator isLetter
   point-read e p = point (p refl) e
 
-  pub delimiter-read : (b : ℕ) → firstKind b ≢ ILLEGAL → firstKind b ≢ IDENT → firstKind b ≢ ADD → Reads b
+  pub delimiter-read : (b : ℕ) → firstKind b ≢ ILLEGAL → firstKind b ≢ IDENT → firstKind b ≢ ADD → firstKind b ≢ STRING → firstKind b ≢ INT → Reads b
   unfolding firstKind startsOperator isLetter lexBy operators
   delimiter-read =
       delimiter-ind Reads

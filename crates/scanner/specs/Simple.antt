@@ -8,7 +8,8 @@ use lib.ListN.{length, drop, getD}
 use lib.Seq.{sets}
 use Rattle.basics.specs.Spelling.{spelled}
 use Rattle.utf8.specs.Chars.{chars}
-use Rattle.token.specs.Kinds.{ILLEGAL, EOF, IDENT, ADD, LPAREN, LBRACK, LBRACE, COMMA, PERIOD, RPAREN, RBRACK, RBRACE, SEMICOLON}
+use Rattle.digits.specs.Digit.{isDecimal}
+use Rattle.token.specs.Kinds.{ILLEGAL, EOF, IDENT, INT, STRING, ADD, LPAREN, LBRACK, LBRACE, COMMA, PERIOD, RPAREN, RBRACK, RBRACE, SEMICOLON}
 use Rattle.token.specs.Table.{keywords}
 use Rattle.token.specs.Search.{bySlot, rowIn}
 use Rattle.words.specs.Word.{isLetter}
@@ -42,7 +43,8 @@ firstKind b =
     (cond (eqb b 91) LBRACK
     (cond (eqb b 93) RBRACK
     (cond (eqb b 123) LBRACE
-    (cond (eqb b 125) RBRACE ILLEGAL))))))))))
+    (cond (eqb b 125) RBRACE
+    (cond (eqb b 34) STRING (cond (isDecimal b) INT ILLEGAL))))))))))))
 
 -- the table of what each first byte tells
 abbrev pub IsTable : List ℕ → Type 0

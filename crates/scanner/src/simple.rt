@@ -6,10 +6,11 @@ use state::Part;
 ghost use mathlib.Core.Path.{_≡_};
 ghost use mathlib.Core.Bool.{false, true};
 ghost use mathlib.Core.Logic.{_≢_};
-ghost use Prim.Native.Nat.{_+_, _≤_, _<_, _^_};
+ghost use Prim.Native.Nat.{ℕ, _+_, _≤_, _<_, _^_};
 ghost use lib.ListN.{length, drop, getD};
 ghost use lib.Seq.{sets};
 ghost use Rattle.utf8.specs.Chars.{chars};
+ghost use Rattle.digits.specs.Digit.{isDecimal};
 ghost use Rattle.token.specs.Kinds.{IDENT, LPAREN};
 ghost use Rattle.token.specs.Table.{identToken};
 ghost use Rattle.words.specs.Word.{isLetter, wordLen};
@@ -25,12 +26,14 @@ pub(crate) struct Next {
     pub(crate) mark: bool,
 }
 
-// What each first byte tells: the kind of a delimiter, IDENT for a letter, ADD for an operator, else ILLEGAL.
+// What each first byte tells: the kind of a delimiter, IDENT for a letter, ADD for an operator, INT for a digit, STRING for a double quote,
+// else ILLEGAL.
 pub(crate) fn first_kinds() -> [u8; 256]
     ensures { λ r. ⌜ IsTable r ⌝ }
 {
     let mut kinds = [token::ILLEGAL; 256];
     kinds[33] = token::ADD;
+    kinds[34] = token::STRING;
     kinds[37] = token::ADD;
     kinds[38] = token::ADD;
     kinds[40] = token::LPAREN;
@@ -55,6 +58,9 @@ pub(crate) fn first_kinds() -> [u8; 256]
     for b in 65..91usize {
         kinds[b] = token::IDENT;
         kinds[b + 32] = token::IDENT;
+    }
+    for b in 48..58usize {
+        kinds[b] = token::INT;
     }
     kinds
 }
@@ -205,6 +211,60 @@ fn operator(
     }
 }
 
+// Where the digits from a place on end, at the latest at the safe place.
+fn digits_end(src: &[u8], firsts: &[u8; 256], at: usize, safe: usize) -> usize
+    requires { ⌜ IsTable (now firsts) × (at ≤ safe) × (safe ≤ length (now src)) ⌝ }
+    ensures { λ r. ⌜ (at ≤ r) × (r ≤ safe) × ((p : ℕ) → at ≤ p → p < r → isDecimal (getD (now (src .entry)) p 0) ≡ true)
+        × (r < safe → isDecimal (getD (now (src .entry)) r 0) ≡ false) ⌝ }
+{
+    let mut end = at;
+    while end < safe {
+        if firsts[src[end] as usize] != token::INT {
+            return end;
+        }
+        end += 1;
+    }
+    end
+}
+
+// Gives the decimal integer at a place: digits alone, no 0 before others, and nothing behind them that belongs to a number or a word.
+fn decimal(
+    src: &[u8],
+    firsts: &[u8; 256],
+    at: usize,
+    safe: usize,
+    position: usize,
+    tokens: &mut [usize],
+    to: usize,
+) -> Next
+    requires { ⌜ IsTable (now firsts) × (at < safe) × (safe < length (now src)) × (isDecimal (getD (now src) at 0) ≡ true)
+        × (to + tokenWidth ≤ length (now tokens)) ⌝ }
+    ensures { λ r. ⌜ Gives (now (src .entry)) at safe position (now (tokens .entry)) to r (now (tokens .exit)) ⌝ }
+{
+    let end = digits_end(src, firsts, at, safe);
+    if safe <= end {
+        return none(at);
+    }
+    let next = firsts[src[end] as usize];
+    if next == token::IDENT {
+        return none(at);
+    }
+    if next == token::PERIOD {
+        return none(at);
+    }
+    if src[at] == 48 {
+        if end != at + 1 {
+            return none(at);
+        }
+    }
+    put_shown(token::INT, false, position, at, end, tokens, to);
+    Next {
+        found: true,
+        place: end,
+        mark: true,
+    }
+}
+
 // Gives the delimiter of a kind at a place; a point is one before a letter.
 fn delimiter(
     src: &[u8],
@@ -282,6 +342,9 @@ pub(crate) fn give_simple(
     }
     if first == token::ADD {
         return operator(src, at, safe, position, tokens, to);
+    }
+    if first == token::INT {
+        return decimal(src, firsts, at, safe, position, tokens, to);
     }
     none(at)
 }

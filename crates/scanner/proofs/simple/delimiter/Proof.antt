@@ -1,18 +1,20 @@
 -- `simple::delimiter` meets its contract: a byte that tells a delimiter, for a point with a letter behind it.
-use Prim.Native.Nat.{_+_, _<_}
+use Prim.Native.Nat.{ℕ, _+_, _<_}
 use mathlib.Core.Bool.{false, true}
-use mathlib.Core.Logic.{⊎-elim}
+use mathlib.Core.Logic.{_≢_, ⊎-elim}
 use mathlib.Core.Path.{_≡_, refl, sym, _∙_}
 use native.Mathlib.Nat.{add-zero}
 use native.Mathlib.Omega.{arith}
+use lib.Dec.{lit<}
 use lib.ListN.{getD}
+use borrow.Author.Tests.{ne-eqb}
 use borrow.Author.Needs.{needs}
-use Rattle.token.specs.Kinds.{PERIOD}
+use Rattle.token.specs.Kinds.{ILLEGAL, IDENT, INT, STRING, ADD, LPAREN, PERIOD}
 use Rattle.words.specs.Word.{isLetter}
 use Rattle.lexer.specs.declared.lexed.Text.the-variants.{Empty}
 use Rattle.lexer.specs.Lexeme.{setsMark}
 use Rattle.scanner.specs.Simple.{firstKind}
-use Rattle.scanner.proofs.SimpleTokens.{letter-first, first-small, first-known, first-no-string, delimiter-read}
+use Rattle.scanner.proofs.SimpleTokens.{letter-first, first-small, first-known, delimiter-read}
 use Rattle.scanner.proofs.Giving.{gives-none, gives-plain}
 use Rattle.scanner.proofs.simple.delimiter.Statement.{statement}
 use Rattle.scanner.proofs.simple.delimiter.Tie as tie
@@ -77,9 +79,10 @@ returns-2 c =
     let small = byte-small (j .before) in
     let is = s .pre .3 in
     let high = s .pre .4 in
+    let low : (k : ℕ) → k < LPAREN → firstKind b ≢ k = λ k l e. omega (arith, is, high, e, l) in
     gives-plain (a .src .now) (a .at) (a .safe) (a .position) (a .tokens .now) (a .to) (a .kind) (a .at + 1) false (setsMark (a .kind)) Empty 0
-    (λ m. rw is (delimiter-read (a .src .now) (a .at) m b (λ e. omega (arith, is, high, e)) (λ e. omega (arith, is, high, e)) (λ e. omega (arith, is, high, e)) refl (letter j)))
-    (rw is (first-known b small)) (rw is (first-no-string b small)) (omega (arith, s .pre .1)) (rw (c .sets-mark .ensures)) (p .put-shown .ensures ∙ rw (add-zero (a .at)))
+    (λ m. rw is (delimiter-read (a .src .now) (a .at) m b (low ILLEGAL (lit< tt)) (low IDENT (lit< tt)) (low ADD (lit< tt)) (low STRING (lit< tt)) (low INT (lit< tt)) refl (letter j)))
+    (rw is (first-known b small)) (ne-eqb (a .kind) STRING (λ e. omega (arith, high, e))) (omega (arith, s .pre .1)) (rw (c .sets-mark .ensures)) (p .put-shown .ensures ∙ rw (add-zero (a .at)))
 
 pub delimiter-spec : {M : Type 1} → statement M
 delimiter-spec =

@@ -5,7 +5,7 @@ use native.Mathlib.Omega.{arith}
 use lib.ListN.{getD}
 use borrow.Author.Needs.{needs}
 use Rattle.scanner.specs.Simple.{firstKind}
-use Rattle.scanner.proofs.SimpleTokens.{letter-first, operator-first}
+use Rattle.scanner.proofs.SimpleTokens.{letter-first, operator-first, digit-first}
 use Rattle.scanner.proofs.Giving.{gives-none}
 use Rattle.scanner.proofs.simple.give_simple.Statement.{statement}
 use Rattle.scanner.proofs.simple.give_simple.Tie as tie
@@ -73,12 +73,24 @@ same-length-4 c = search needs
 returns-4 : tie.Need-returns-4
 returns-4 c = search needs
 
+decimal-requires : tie.Need-decimal-requires
+decimal-requires c κs =
+    let f = c .before .before .before .before .before .before in
+    let s = f .before .before .before .before in
+    (s .pre .0, s .pre .2, s .pre .3, digit-first _ (small f) (sym (first-is f) ∙ c .before .if5 .taken), s .pre .4)
+
+same-length-5 : tie.Need-same-length-5
+same-length-5 c = search needs
+
+returns-5 : tie.Need-returns-5
+returns-5 c = search needs
+
 none-requires : tie.Need-none-requires
 none-requires c κs = search needs
 
-returns-5 : tie.Need-returns-5
-returns-5 c =
-    let a = c .before .before .before .before .before .before .before .before .before .args in
+returns-6 : tie.Need-returns-6
+returns-6 c =
+    let a = c .before .before .before .before .before .before .before .before .before .before .args in
     gives-none (a .src .now) (a .at) (a .safe) (a .position) (a .tokens .now) (a .to) (c .none .ensures)
 
 pub give-simple-spec : {M : Type 1} → statement M
@@ -100,5 +112,8 @@ give-simple-spec =
     operator-requires
     same-length-4
     returns-4
+    decimal-requires
+    same-length-5
+    returns-5
     none-requires
-    returns-5)
+    returns-6)
