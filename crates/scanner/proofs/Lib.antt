@@ -12,6 +12,7 @@ pub mod Ends
 pub mod Tries
 pub mod SimpleTokens
 pub mod Giving
+pub mod StringTokens
 pub mod LineStarts
 pub mod SimpleScans
 pub mod Runs

@@ -8,7 +8,7 @@ use lib.ListN.{length, drop, getD}
 use lib.Seq.{sets}
 use Rattle.basics.specs.Spelling.{spelled}
 use Rattle.utf8.specs.Chars.{chars}
-use Rattle.token.specs.Kinds.{ILLEGAL, EOF, IDENT, ADD, LPAREN, LBRACK, LBRACE, COMMA, PERIOD, RPAREN, RBRACK, RBRACE, SEMICOLON}
+use Rattle.token.specs.Kinds.{ILLEGAL, EOF, IDENT, STRING, ADD, LPAREN, LBRACK, LBRACE, COMMA, PERIOD, RPAREN, RBRACK, RBRACE, SEMICOLON}
 use Rattle.token.specs.Table.{keywords}
 use Rattle.token.specs.Search.{bySlot, rowIn}
 use Rattle.words.specs.Word.{isLetter}
@@ -62,6 +62,18 @@ simpleToken kind inserted position start end =
       code = 0;
       text = record { area = false; start = start; end = end };
       value = record { area = false; start = start; end = start };
+    }
+
+-- a string from a place to its closing quote; its value is the source's bytes between the quotes
+abbrev pub stringToken : ℕ → ℕ → ℕ → Token
+stringToken position start close =
+    record {
+      kind = STRING;
+      inserted = false;
+      position = position;
+      code = 0;
+      text = record { area = false; start = start; end = close + 1 };
+      value = record { area = false; start = start + 1; end = close };
     }
 
 -- a word of a kind, from a place to another
