@@ -1,21 +1,22 @@
 -- Runs of ASCII characters that are written as themselves: where they end, and all of them read as one step.
 use Prim.Native.Nat.{ℕ, zero, suc, _+_, _-_, _≤_, _<_, suc-le-suc}
-use mathlib.Core.Path.{_≡_, refl, ap, _∙_}
+use mathlib.Core.Path.{_≡_, refl, sym, ap, _∙_}
 use mathlib.Core.Bool.{Bool, true, false, cond, false≢true}
 use mathlib.Core.List.{List, [], _∷_}
+use mathlib.Core.Logic.{⊎-elim}
 use native.Mathlib.Decide.{decLt}
 use native.Mathlib.Nat.{add-zero}
 use native.Mathlib.Omega.{arith}
 use lib.Dec.{eqb, ltb}
 use lib.ListN.{length, getD, drop, drop-of-length-le, length-drop}
 use borrow.Author.Tests.{ne-eqb, ltb-true}
-use Rattle.basics.proofs.Choice.{cond-ind}
+use Rattle.basics.proofs.Choice.{either, cond-ind}
 use Rattle.basics.proofs.Lists.{drop-next}
 use Rattle.quotes.specs.declared.Quoted.{Quoted}
 use Rattle.quotes.specs.Body.{quotedAt}
-use Rattle.quotes.specs.Steps.{added, isPlain, plainLen, addedPlain}
+use Rattle.quotes.specs.Steps.{nothing, added, isPlain, plainLen, addedPlain, stopped}
 use Rattle.quotes.proofs.Heads.{not-so}
-use Rattle.quotes.proofs.Places.{joined, step-ascii}
+use Rattle.quotes.proofs.Places.{joined, joined-start, step-quote, step-ascii}
 
 -- ---- such a byte
 record Plain (quote b : ℕ) : Type 0 where
@@ -114,3 +115,36 @@ module _ (quote : ℕ) (low : quote < 0x80) (s : List ℕ) (q : Quoted) where
       (step-ascii quote low s p q h no-quote no-lf no-slash l
       ∙ ap (λ x. joined x (quotedAt quote s (p + 1))) (first-one q (getD s p 0))
       ∙ more (getD s p 0) n (p + 1) 0 refl)
+
+-- ---- a body of n such characters that is closed after them
+abbrev pub closedAt : ℕ → ℕ → ℕ → Quoted
+closedAt p n code =
+    record { end = p + n + 1; chars = n + 1; closed = true; error = 0; count = n; code = code; escaped = false; strays = 0; bytes = n }
+
+module _ (quote : ℕ) (low : quote < 0x80) (s : List ℕ) (p : ℕ) where
+  none-closed : p < length s → getD s p 0 ≡ quote → closedAt p 0 0 ≡ quotedAt quote s p
+  unfolding stopped
+  none-closed h f = rw (add-zero p) (step-quote quote low s p (nothing p) h refl f ∙ sym (joined-start p (quotedAt quote s p)))
+
+  some-closed : (n : ℕ) → suc n ≡ plainLen quote (drop p s) → p + suc n < length s → getD s (p + suc n) 0 ≡ quote → isPlain quote (getD s p 0) ≡ true
+      → closedAt p (suc n) (getD s p 0) ≡ quotedAt quote s p
+  unfolding stopped addedPlain
+  some-closed n e h f t =
+      let b = getD s p 0 in
+      let there : p < length s = omega arith in
+      let is : p + suc n ≡ p + 1 + plainLen quote (drop (p + 1) s) = omega (arith, e, plain-next quote s p there t) in
+      let total : p + suc n - p ≡ suc n = omega arith in
+      let y = plain-is quote b t in
+      let run = step-run quote low s (nothing p) p (p + suc n) is there (y .no-quote) (y .no-lf) (y .no-slash) (y .low) in
+      let z : suc n ≡ 0 + suc n = omega arith in
+      let fresh : cond (eqb (0 + suc n) 0) 0 b ≡ b = rw (ne-eqb (0 + suc n) 0 (λ e. omega arith)) in
+      (λ i. record { end = p + suc n + 1; chars = z i + 1; closed = true; error = 0; count = z i; code = b; escaped = false; strays = 0; bytes = z i })
+      ∙ step-quote quote low s (p + suc n) (addedPlain (nothing p) (suc n) b) h fresh f
+      ∙ sym (rw total at run) ∙ sym (joined-start p (quotedAt quote s p))
+
+  pub run-closed : (n : ℕ) → n ≡ plainLen quote (drop p s) → p + n < length s → getD s (p + n) 0 ≡ quote
+      → closedAt p n (cond (eqb n 0) 0 (getD s p 0)) ≡ quotedAt quote s p
+  run-closed zero e h f = none-closed (omega arith) (rw (add-zero p) at f)
+  run-closed (suc n) e h f =
+      rw (ne-eqb (suc n) 0 (λ z. omega arith))
+      (⊎-elim (some-closed n e h f) (λ t. absurd (omega (arith, e, plain-stop quote s p (omega arith) t))) (either (isPlain quote (getD s p 0))))

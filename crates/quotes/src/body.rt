@@ -222,6 +222,13 @@ pub fn string_body(src: &[u8], at: usize) -> Quoted
     body_at(src, at, 34)
 }
 
+// The place of the first byte from a place on that is no plain character of a string: a quote, a backslash, a line feed, one above 127, or the end.
+pub fn plain_string(src: &[u8], at: usize) -> usize
+    ensures { λ r. ⌜ r ≡ at + plainLen 34 (drop at (now (src .entry))) ⌝ }
+{
+    plain_end(src, at, 34)
+}
+
 // The body of a character literal, from a place after its opening quote.
 pub fn char_body(src: &[u8], at: usize) -> Quoted
     ensures { λ r. ⌜ r ≡ quotedAt 39 (now (src .entry)) at ⌝ }

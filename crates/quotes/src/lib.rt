@@ -4,6 +4,7 @@ mod escapes;
 mod numeral;
 
 pub use body::char_body;
+pub use body::plain_string;
 pub use body::string_body;
 pub use escapes::escape_at;
 

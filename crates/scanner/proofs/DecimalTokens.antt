@@ -10,13 +10,12 @@ use lib.Dec.{eqb}
 use lib.ListN.{getD, drop}
 use lib.Seq.{sets}
 use borrow.Author.Tests.{ne-eqb}
-use Rattle.basics.proofs.Choice.{either, between-true}
+use Rattle.basics.proofs.Choice.{either, between-true, true-of}
 use Rattle.basics.proofs.Every.{every-below}
 use Rattle.basics.proofs.Lists.{reach}
 use Rattle.utf8.specs.Chars.{chars}
 use Rattle.digits.specs.Digit.{isDecimal}
 use Rattle.token.specs.Kinds.{IDENT, INT, PERIOD}
-use Rattle.token.proofs.Ranges.{true-of}
 use Rattle.words.specs.Word.{isLetter}
 use Rattle.numbers.specs.declared.Number.{Number}
 use Rattle.numbers.specs.declared.Spelling.the-variants.{AsRead}

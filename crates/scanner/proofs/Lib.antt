@@ -13,6 +13,7 @@ pub mod Tries
 pub mod SimpleTokens
 pub mod Giving
 pub mod DecimalTokens
+pub mod StringTokens
 pub mod LineStarts
 pub mod SimpleScans
 pub mod Runs

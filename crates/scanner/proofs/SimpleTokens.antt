@@ -13,7 +13,7 @@ use Rattle.basics.specs.Between.{between}
 use Rattle.basics.specs.Same.{same}
 use Rattle.basics.specs.Spelling.{spelled}
 use Rattle.basics.proofs.Choice.{either, cond-ind, and-left, and-right, between-true, below-it, above-it, true-of}
-use Rattle.basics.proofs.Every.{every-below}
+use Rattle.basics.proofs.Every.{below, every-below}
 use Rattle.basics.proofs.Lists.{reach, same-true}
 use Rattle.utf8.specs.declared.Char.{Char}
 use Rattle.utf8.specs.Chars.{chars}
@@ -41,28 +41,32 @@ use Rattle.lexer.proofs.Dispatch.{word-is, feed-is, operator-is}
 use Rattle.scanner.specs.Simple.{isOneOf, startsOperator, firstKind, IsTable}
 
 -- ---- what a byte tells, by computing each
--- only a letter tells a word
+-- what only bytes tell of which a test holds
+only : (kind : ℕ) (P : ℕ → Bool) → T (below (λ x. not (eqb (firstKind x) kind) || P x) 256) → (b : ℕ) → b < 256 → firstKind b ≡ kind → P b ≡ true
+only kind P all b h e =
+    rw (eq-eqb (firstKind b) kind e) at (true-of (not (eqb (firstKind b) kind) || P b) (every-below (λ x. not (eqb (firstKind x) kind) || P x) 256 all b h))
+
 pub letter-first : (b : ℕ) → b < 256 → firstKind b ≡ IDENT → isLetter b ≡ true
 unfolding firstKind startsOperator isLetter
-letter-first b h e =
-    rw (eq-eqb (firstKind b) IDENT e) at (true-of (not (eqb (firstKind b) IDENT) || isLetter b) (every-below (λ x. not (eqb (firstKind x) IDENT) || isLetter x) 256 tt b h))
+letter-first = only IDENT isLetter tt
 
--- only the first byte of an operator tells one
 pub operator-first : (b : ℕ) → b < 256 → firstKind b ≡ ADD → startsOperator b ≡ true
 unfolding firstKind startsOperator isLetter
-operator-first b h e =
-    rw (eq-eqb (firstKind b) ADD e) at (true-of (not (eqb (firstKind b) ADD) || startsOperator b) (every-below (λ x. not (eqb (firstKind x) ADD) || startsOperator x) 256 tt b h))
+operator-first = only ADD startsOperator tt
+
+pub digit-first : (b : ℕ) → b < 256 → firstKind b ≡ INT → isDecimal b ≡ true
+unfolding firstKind startsOperator isLetter
+digit-first = only INT isDecimal tt
+
+pub quote-first : (b : ℕ) → b < 256 → firstKind b ≡ STRING → b ≡ 34
+unfolding firstKind startsOperator isLetter
+quote-first b h e = eqb-true b 34 (only STRING (λ x. eqb x 34) tt b h e)
 
 pub first-small : (b : ℕ) → b < 256 → firstKind b < 128
 unfolding firstKind startsOperator isLetter
 first-small b h = ltb-true (firstKind b) 128 (true-of _ (every-below (λ x. ltb (firstKind x) 128) 256 tt b h))
 
--- only a decimal digit tells a number
-pub digit-first : (b : ℕ) → b < 256 → firstKind b ≡ INT → isDecimal b ≡ true
-unfolding firstKind startsOperator isLetter
-digit-first b h e =
-    rw (eq-eqb (firstKind b) INT e) at (true-of (not (eqb (firstKind b) INT) || isDecimal b) (every-below (λ x. not (eqb (firstKind x) INT) || isDecimal x) 256 tt b h))
-
+-- a digit tells a number
 pub first-digit : (b : ℕ) → isDecimal b ≡ true → firstKind b ≡ INT
 unfolding firstKind startsOperator isLetter
 first-digit b d = let q = between-true 48 b 57 d in sym (value-within firstKind INT 48 10 tt b (q .0) (omega (arith, q .1)))

@@ -66,6 +66,18 @@ simpleToken kind inserted position start end =
       value = record { area = false; start = start; end = start };
     }
 
+-- a string from a place to its closing quote; its value is the source's bytes between the quotes
+abbrev pub stringToken : ℕ → ℕ → ℕ → Token
+stringToken position start close =
+    record {
+      kind = STRING;
+      inserted = false;
+      position = position;
+      code = 0;
+      text = record { area = false; start = start; end = close + 1 };
+      value = record { area = false; start = start + 1; end = close };
+    }
+
 -- a word of a kind, from a place to another
 abbrev pub wordOf : ℕ → ℕ → ℕ → ℕ → Token
 wordOf kind position at end = simpleToken kind false position at (cond (eqb kind IDENT) end at)

@@ -1,5 +1,5 @@
-// Simple tokens: words, delimiters, operators but those that start with a slash, and the semicolon that is inserted before a line feed.
-// The first byte tells them from all others, for a point together with the second. Their text is the source's own bytes.
+// Simple tokens: words, delimiters, operators but those that start with a slash, decimal integers, strings of plain characters, and the
+// semicolon that is inserted before a line feed. The first byte tells what to try. Their text is the source's own bytes.
 use crate::answer::Token;
 use crate::layout::put_token_at;
 use state::Part;
@@ -17,7 +17,7 @@ ghost use Rattle.words.specs.Word.{isLetter, wordLen};
 ghost use Rattle.lexer.specs.Lexeme.{setsMark};
 ghost use Rattle.state.specs.Layout.{bit};
 ghost use Rattle.scanner.specs.Layout.{tokenWidth, tokenNumbers};
-ghost use Rattle.scanner.specs.Simple.{firstKind, startsOperator, IsTable, IsKeywords, simpleToken, wordOf, Gives};
+ghost use Rattle.scanner.specs.Simple.{firstKind, startsOperator, IsTable, IsKeywords, simpleToken, stringToken, wordOf, Gives};
 
 // What comes of a simple token: whether it is found, the place after it, and the mark that it leaves.
 pub(crate) struct Next {
@@ -313,6 +313,59 @@ fn semicolon(
     }
 }
 
+// Writes a string to the numbers from an index on; its text is the source's bytes from its start to the closing quote, its value those between the quotes.
+fn put_string(start: usize, close: usize, position: usize, tokens: &mut [usize], to: usize)
+    requires { ⌜ (start + 1 < 2 ^ 64) × (close + 1 < 2 ^ 64) × (to + tokenWidth ≤ length (now tokens)) ⌝ }
+    ensures { λ r. ⌜ now (tokens .exit) ≡ sets (now (tokens .entry)) to (tokenNumbers (stringToken position start close)) ⌝ }
+{
+    let text = Part {
+        area: false,
+        start,
+        end: close + 1,
+    };
+    let value = Part {
+        area: false,
+        start: start + 1,
+        end: close,
+    };
+    let token = Token {
+        kind: token::STRING,
+        inserted: false,
+        position,
+        code: 0,
+        text,
+        value,
+    };
+    put_token_at(token, tokens, to);
+}
+
+// Gives the string at a place, where it is closed and has plain characters alone.
+fn string(
+    src: &[u8],
+    at: usize,
+    safe: usize,
+    position: usize,
+    tokens: &mut [usize],
+    to: usize,
+) -> Next
+    requires { ⌜ (at < safe) × (safe < length (now src)) × (getD (now src) at 0 ≡ 34) × (to + tokenWidth ≤ length (now tokens)) ⌝ }
+    ensures { λ r. ⌜ Gives (now (src .entry)) at safe position (now (tokens .entry)) to r (now (tokens .exit)) ⌝ }
+{
+    let close = quotes::plain_string(src, at + 1);
+    if safe <= close {
+        return none(at);
+    }
+    if src[close] != 34 {
+        return none(at);
+    }
+    put_string(at, close, position, tokens, to);
+    Next {
+        found: true,
+        place: close + 1,
+        mark: true,
+    }
+}
+
 // Gives the simple token at a place before which it is safe to read on, if there is one: it is written to the numbers from an index on.
 // Each kind is written by itself, so that what it leaves empty takes no time.
 pub(crate) fn give_simple(
@@ -345,6 +398,9 @@ pub(crate) fn give_simple(
     }
     if first == token::INT {
         return decimal(src, firsts, at, safe, position, tokens, to);
+    }
+    if first == token::STRING {
+        return string(src, at, safe, position, tokens, to);
     }
     none(at)
 }

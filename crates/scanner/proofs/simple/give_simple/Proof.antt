@@ -5,7 +5,7 @@ use native.Mathlib.Omega.{arith}
 use lib.ListN.{getD}
 use borrow.Author.Needs.{needs}
 use Rattle.scanner.specs.Simple.{firstKind}
-use Rattle.scanner.proofs.SimpleTokens.{letter-first, operator-first, digit-first}
+use Rattle.scanner.proofs.SimpleTokens.{letter-first, operator-first, digit-first, quote-first}
 use Rattle.scanner.proofs.Giving.{gives-none}
 use Rattle.scanner.proofs.simple.give_simple.Statement.{statement}
 use Rattle.scanner.proofs.simple.give_simple.Tie as tie
@@ -85,12 +85,24 @@ same-length-5 c = search needs
 returns-5 : tie.Need-returns-5
 returns-5 c = search needs
 
+string-requires : tie.Need-string-requires
+string-requires c κs =
+    let f = c .before .before .before .before .before .before .before in
+    let s = f .before .before .before .before in
+    (s .pre .2, s .pre .3, quote-first _ (small f) (sym (first-is f) ∙ c .before .if6 .taken), s .pre .4)
+
+same-length-6 : tie.Need-same-length-6
+same-length-6 c = search needs
+
+returns-6 : tie.Need-returns-6
+returns-6 c = search needs
+
 none-requires : tie.Need-none-requires
 none-requires c κs = search needs
 
-returns-6 : tie.Need-returns-6
-returns-6 c =
-    let a = c .before .before .before .before .before .before .before .before .before .before .args in
+returns-7 : tie.Need-returns-7
+returns-7 c =
+    let a = c .before .before .before .before .before .before .before .before .before .before .before .args in
     gives-none (a .src .now) (a .at) (a .safe) (a .position) (a .tokens .now) (a .to) (c .none .ensures)
 
 pub give-simple-spec : {M : Type 1} → statement M
@@ -115,5 +127,8 @@ give-simple-spec =
     decimal-requires
     same-length-5
     returns-5
+    string-requires
+    same-length-6
+    returns-6
     none-requires
-    returns-6)
+    returns-7)
