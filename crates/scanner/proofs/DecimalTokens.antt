@@ -27,7 +27,7 @@ use Rattle.lexer.specs.Made.{answer}
 use Rattle.lexer.specs.Placed.{placed, said}
 use Rattle.lexer.proofs.Numerals.{numeralAt, numeral-said}
 use Rattle.lexer.proofs.Dispatch.{number-is}
-use Rattle.scanner.specs.declared.simple.Next.{Next}
+use Rattle.scanner.specs.declared.next.Next.{Next}
 use Rattle.scanner.specs.Layout.{tokenNumbers}
 use Rattle.scanner.specs.Simple.{startsOperator, firstKind, simpleToken, Gives}
 use Rattle.scanner.proofs.SimpleTokens.{letter-past}

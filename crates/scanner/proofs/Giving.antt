@@ -29,7 +29,7 @@ use Rattle.lexer.specs.Placed.{placed, said}
 use Rattle.lexer.proofs.Known.{word-known, word-no-string}
 use Rattle.lexer.proofs.Dispatch.{word-is}
 use Rattle.lexer.proofs.Tokens.{identifier-said, keyword-said}
-use Rattle.scanner.specs.declared.simple.Next.{Next}
+use Rattle.scanner.specs.declared.next.Next.{Next}
 use Rattle.scanner.specs.Layout.{tokenNumbers}
 use Rattle.scanner.specs.Steps.{tokenBy}
 use Rattle.scanner.specs.Simple.{IsKeywords, simpleToken, wordOf, Gave, Gives}

@@ -22,7 +22,7 @@ use Rattle.scanner.specs.Scan.{After, scanOf}
 use Rattle.scanner.specs.Layout.{tokenWidth, tokenNumbers}
 use Rattle.scanner.specs.Many.{manyOf, leftAfter}
 use Rattle.scanner.specs.declared.near.Near.{Near}
-use Rattle.scanner.specs.declared.simple.Next.{Next}
+use Rattle.scanner.specs.declared.next.Next.{Next}
 use Rattle.scanner.specs.Near.{nearAs}
 use Rattle.scanner.specs.Simple.{Gave}
 use Rattle.scanner.specs.Steps.{Reads, tokenBy}

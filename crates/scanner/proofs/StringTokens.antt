@@ -17,7 +17,7 @@ use Rattle.lexer.specs.Lex.{lexToken}
 use Rattle.lexer.specs.Placed.{placed, said}
 use Rattle.lexer.proofs.QuotedTokens.{literalAs, string-closed}
 use Rattle.lexer.proofs.Dispatch.{string-is}
-use Rattle.scanner.specs.declared.simple.Next.{Next}
+use Rattle.scanner.specs.declared.next.Next.{Next}
 use Rattle.scanner.specs.Layout.{tokenNumbers}
 use Rattle.scanner.specs.Steps.{tokenBy}
 use Rattle.scanner.specs.Simple.{stringToken, Gives}

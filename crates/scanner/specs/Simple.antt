@@ -17,7 +17,7 @@ use Rattle.lexer.specs.declared.lexed.Lexed.{Lexed}
 use Rattle.lexer.specs.Lex.{lexToken}
 use Rattle.lexer.specs.Placed.{placed, said}
 use Rattle.scanner.specs.declared.answer.Token.{Token}
-use Rattle.scanner.specs.declared.simple.Next.{Next}
+use Rattle.scanner.specs.declared.next.Next.{Next}
 use Rattle.scanner.specs.Layout.{tokenNumbers}
 use Rattle.scanner.specs.Steps.{isPlain, tokenBy}
 

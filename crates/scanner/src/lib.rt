@@ -1,11 +1,16 @@
 // The scanner: opening a text, one scan or many, and questions about it.
 mod answer;
 mod batch;
+mod first;
 mod layout;
+mod literal;
 mod near;
+mod next;
 mod quick;
+mod run;
 mod scanning;
 mod simple;
+mod word;
 mod write;
 
 pub use answer::Scanned;

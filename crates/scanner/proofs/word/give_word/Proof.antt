@@ -1,4 +1,4 @@
--- `scanner::simple::give_word` meets its contract: the text ends where the kind says.
+-- `scanner::word::give_word` meets its contract: the text ends where the kind says.
 use mathlib.Core.Path.{_≡_, ap, _∙_}
 use mathlib.Core.Bool.{false, cond}
 use mathlib.Core.Logic.{⊎-elim}
@@ -9,8 +9,8 @@ use lib.Seq.{sets}
 use Rattle.token.specs.Kinds.{IDENT}
 use Rattle.scanner.specs.Layout.{tokenNumbers}
 use Rattle.scanner.specs.Simple.{simpleToken}
-use Rattle.scanner.proofs.simple.give_word.Statement.{statement}
-use Rattle.scanner.proofs.simple.give_word.Tie as tie
+use Rattle.scanner.proofs.word.give_word.Statement.{statement}
+use Rattle.scanner.proofs.word.give_word.Tie as tie
 
 put-shown-requires : tie.Need-put-shown-requires
 put-shown-requires c κs = search needs

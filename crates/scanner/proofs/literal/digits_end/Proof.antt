@@ -1,4 +1,4 @@
--- `simple::digits_end` meets its contract. The loop's invariant: each byte passed is a decimal digit.
+-- `literal::digits_end` meets its contract. The loop's invariant: each byte passed is a decimal digit.
 use Prim.Native.Nat.{ℕ, _-_, _≤_, _<_}
 use mathlib.Core.Path.{_≡_, sym, subst, _∙_}
 use mathlib.Core.Bool.{true}
@@ -9,8 +9,8 @@ use borrow.Author.Needs.{needs}
 use Rattle.digits.specs.Digit.{isDecimal}
 use Rattle.scanner.specs.Simple.{firstKind}
 use Rattle.scanner.proofs.SimpleTokens.{digit-first, no-digit}
-use Rattle.scanner.proofs.simple.digits_end.Statement.{statement}
-use Rattle.scanner.proofs.simple.digits_end.Tie as tie
+use Rattle.scanner.proofs.literal.digits_end.Statement.{statement}
+use Rattle.scanner.proofs.literal.digits_end.Tie as tie
 
 abbrev Inv-loop : tie.InvT-loop
 Inv-loop src firsts at safe end₀ end = (at ≤ end) × (end ≤ safe) × ((p : ℕ) → at ≤ p → p < end → isDecimal (getD src p 0) ≡ true)

@@ -1,4 +1,4 @@
--- `simple::word` meets its contract: a run that ends within eight bytes is the word, and the tables of keywords tell its kind.
+-- `word::word` meets its contract: a run that ends within eight bytes is the word, and the tables of keywords tell its kind.
 use Prim.Native.Nat.{_+_, _<_}
 use mathlib.Core.Path.{_≡_, sym, ap, _∙_}
 use native.Mathlib.Omega.{arith}
@@ -13,8 +13,8 @@ use Rattle.words.specs.declared.Near.{Near}
 use Rattle.words.proofs.Marks.{run-room}
 use Rattle.scanner.proofs.SimpleTokens.{word-small}
 use Rattle.scanner.proofs.Giving.{gives-short, kind-told}
-use Rattle.scanner.proofs.simple.word.Statement.{statement}
-use Rattle.scanner.proofs.simple.word.Tie as tie
+use Rattle.scanner.proofs.word.word.Statement.{statement}
+use Rattle.scanner.proofs.word.word.Tie as tie
 
 near-run-requires : tie.Need-near-run-requires
 near-run-requires c κs = search needs

@@ -1,7 +1,7 @@
--- `scanner::batch::run_at` meets its contract.
+-- `scanner::run::run_at` meets its contract.
 use borrow.Author.Needs.{needs}
-use Rattle.scanner.proofs.batch.run_at.Statement.{statement}
-use Rattle.scanner.proofs.batch.run_at.Tie as tie
+use Rattle.scanner.proofs.run.run_at.Statement.{statement}
+use Rattle.scanner.proofs.run.run_at.Tie as tie
 
 state-at-requires : tie.Need-state-at-requires
 state-at-requires c κs = search needs

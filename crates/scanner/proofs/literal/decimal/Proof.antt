@@ -1,4 +1,4 @@
--- `simple::decimal` meets its contract: what was read is digits alone, and nothing behind them belongs to a number.
+-- `literal::decimal` meets its contract: what was read is digits alone, and nothing behind them belongs to a number.
 use Prim.Native.Nat.{_+_, _<_}
 use mathlib.Core.Bool.{false, true≢false}
 use mathlib.Core.Logic.{⊎-elim}
@@ -10,8 +10,8 @@ use borrow.Author.Needs.{needs}
 use Rattle.numbers.proofs.Decimal.{goesOn}
 use Rattle.scanner.proofs.Giving.{gives-none}
 use Rattle.scanner.proofs.DecimalTokens.{goes-not-on, gives-integer}
-use Rattle.scanner.proofs.simple.decimal.Statement.{statement}
-use Rattle.scanner.proofs.simple.decimal.Tie as tie
+use Rattle.scanner.proofs.literal.decimal.Statement.{statement}
+use Rattle.scanner.proofs.literal.decimal.Tie as tie
 
 digits-end-requires : tie.Need-digits-end-requires
 digits-end-requires c κs = search needs

@@ -1,9 +1,9 @@
--- `scanner::batch::safe_end` meets its contract: the limit is at most the length and at most where the size ends.
+-- `scanner::run::safe_end` meets its contract: the limit is at most the length and at most where the size ends.
 use mathlib.Core.Logic.{⊎-elim}
 use native.Mathlib.Omega.{arith}
 use borrow.Author.Needs.{needs}
-use Rattle.scanner.proofs.batch.safe_end.Statement.{statement}
-use Rattle.scanner.proofs.batch.safe_end.Tie as tie
+use Rattle.scanner.proofs.run.safe_end.Statement.{statement}
+use Rattle.scanner.proofs.run.safe_end.Tie as tie
 
 sub-sized : tie.Need-sub-sized
 sub-sized c = search needs

@@ -1,4 +1,4 @@
--- `scanner::simple::first_kinds` meets its contract: the table at the loops' end is computed.
+-- `scanner::first::first_kinds` meets its contract: the table at the loops' end is computed.
 use Prim.Native.Nat.{ℕ, zero, suc, _+_, _-_, _≤_}
 use mathlib.Core.Path.{_≡_, refl, ap, _∙_}
 use mathlib.Core.List.{List}
@@ -10,8 +10,8 @@ use Rattle.basics.proofs.Every.{every-entry}
 use Rattle.token.specs.Kinds.{ILLEGAL, IDENT, INT, STRING, ADD, LPAREN, LBRACK, LBRACE, COMMA, PERIOD, RPAREN, RBRACK, RBRACE, SEMICOLON}
 use Rattle.words.specs.Word.{isLetter}
 use Rattle.scanner.specs.Simple.{startsOperator, firstKind, IsTable}
-use Rattle.scanner.proofs.simple.first_kinds.Statement.{statement}
-use Rattle.scanner.proofs.simple.first_kinds.Tie as tie
+use Rattle.scanner.proofs.first.first_kinds.Statement.{statement}
+use Rattle.scanner.proofs.first.first_kinds.Tie as tie
 
 -- the table before the loops
 unfoldable marks : List ℕ

@@ -1,11 +1,11 @@
--- `simple::string` meets its contract: a run of plain characters before the closing quote is the whole body.
+-- `literal::string` meets its contract: a run of plain characters before the closing quote is the whole body.
 use mathlib.Core.Path.{refl}
 use native.Mathlib.Omega.{arith}
 use borrow.Author.Needs.{needs}
 use Rattle.scanner.proofs.Giving.{gives-none}
 use Rattle.scanner.proofs.StringTokens.{gives-string}
-use Rattle.scanner.proofs.simple.string.Statement.{statement}
-use Rattle.scanner.proofs.simple.string.Tie as tie
+use Rattle.scanner.proofs.literal.string.Statement.{statement}
+use Rattle.scanner.proofs.literal.string.Tie as tie
 
 add-plain-string : tie.Need-add-plain-string
 add-plain-string c = search needs

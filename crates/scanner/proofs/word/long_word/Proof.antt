@@ -1,10 +1,10 @@
--- `simple::long_word` meets its contract: the word that the two searches tell.
+-- `word::long_word` meets its contract: the word that the two searches tell.
 use native.Mathlib.Omega.{arith}
 use borrow.Author.Needs.{needs}
 use Rattle.scanner.proofs.SimpleTokens.{word-small}
 use Rattle.scanner.proofs.Giving.{gives-none, gives-word}
-use Rattle.scanner.proofs.simple.long_word.Statement.{statement}
-use Rattle.scanner.proofs.simple.long_word.Tie as tie
+use Rattle.scanner.proofs.word.long_word.Statement.{statement}
+use Rattle.scanner.proofs.word.long_word.Tie as tie
 
 word-end-requires : tie.Need-word-end-requires
 word-end-requires c κs = search needs

@@ -1,4 +1,4 @@
--- `scanner::simple::sets_mark` meets its contract: each kind is computed.
+-- `scanner::next::sets_mark` meets its contract: each kind is computed.
 use Prim.Native.Nat.{ℕ, _<_, _≤_, _/_, _%_, _^_}
 use mathlib.Core.Path.{_≡_, ap, _∙_}
 use mathlib.Core.Bool.{Bool, Bool·beq}
@@ -9,8 +9,8 @@ use borrow.Author.Needs.{needs}
 use Rattle.basics.proofs.Choice.{same-test}
 use Rattle.token.proofs.Ranges.{every-within}
 use Rattle.lexer.specs.Lexeme.{setsMark}
-use Rattle.scanner.proofs.simple.sets_mark.Statement.{statement}
-use Rattle.scanner.proofs.simple.sets_mark.Tie as tie
+use Rattle.scanner.proofs.next.sets_mark.Statement.{statement}
+use Rattle.scanner.proofs.next.sets_mark.Tie as tie
 
 -- a kind's bit of a number
 abbrev bit : ℕ → ℕ → Bool

@@ -1,9 +1,9 @@
--- `scanner::batch::is_ready` meets its contract: the tests that led to each return.
+-- `scanner::run::is_ready` meets its contract: the tests that led to each return.
 use mathlib.Core.Path.{sym, _∙_}
 use mathlib.Core.Bool.{true≢false, false≢true}
 use borrow.Author.Tests.{ltb-true, not-false}
-use Rattle.scanner.proofs.batch.is_ready.Statement.{statement}
-use Rattle.scanner.proofs.batch.is_ready.Tie as tie
+use Rattle.scanner.proofs.run.is_ready.Statement.{statement}
+use Rattle.scanner.proofs.run.is_ready.Tie as tie
 
 returns : tie.Need-returns
 returns c e = absurd (false≢true e)

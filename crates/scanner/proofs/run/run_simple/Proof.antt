@@ -1,4 +1,4 @@
--- `batch::run_simple` meets its contract. The loop's invariant: the state at the place fits, the tokens given are written, and the scans that are left
+-- `run::run_simple` meets its contract. The loop's invariant: the state at the place fits, the tokens given are written, and the scans that are left
 -- add the others.
 use Prim.Native.Nat.{ℕ, _+_, _-_, _*_, _≤_, _<_, _^_}
 use mathlib.Core.Path.{_≡_, refl, sym, ap, subst, _∙_}
@@ -21,8 +21,8 @@ use Rattle.scanner.specs.Many.{manyOf, leftAfter}
 use Rattle.scanner.proofs.Scans.{held}
 use Rattle.scanner.proofs.SimpleScans.{Recorded, recorded-length}
 use Rattle.scanner.proofs.Runs.{offset-within, size-small, state-start, near-past, recorded-line, recorded-nothing, step}
-use Rattle.scanner.proofs.batch.run_simple.Statement.{statement}
-use Rattle.scanner.proofs.batch.run_simple.Tie as tie
+use Rattle.scanner.proofs.run.run_simple.Statement.{statement}
+use Rattle.scanner.proofs.run.run_simple.Tie as tie
 
 abbrev Inv-loop : tie.InvT-loop
 Inv-loop src firsts numbers kinds first table₀ list tokens₀ from room safe place₀ mark₀ lines₀ count₀ table tokens place mark lines count =
