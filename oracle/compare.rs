@@ -213,16 +213,17 @@ impl Comparison {
 }
 
 // How many inputs of each mode make so many in all.
-fn shares(count: usize) -> [(&'static str, usize); 6] {
+fn shares(count: usize) -> [(&'static str, usize); 7] {
     let edges = (count / 20).min(1957);
     let limits = (count / 1000).min(141);
     let exhaustive = (count / 4).min(757_933);
     let long = count / 1000;
-    let rest = count - edges - limits - exhaustive - long;
+    let rest = count - edges - limits - 2 * exhaustive - long;
     let (grown, damaged) = (rest - rest / 2, rest / 2);
     [
         ("edges", edges),
         ("exhaustive", exhaustive),
+        ("followed", exhaustive),
         ("grown", grown),
         ("damaged", damaged),
         ("long", long),

@@ -9,7 +9,7 @@ mod inputs;
 use std::io::{self, BufWriter, Write};
 
 fn usage() -> ! {
-    eprintln!("usage: generate MODE COUNT SEED; a mode is exhaustive, edges, grown, long, damaged or limits");
+    eprintln!("usage: generate MODE COUNT SEED; a mode is exhaustive, followed, edges, grown, long, damaged or limits");
     std::process::exit(1)
 }
 

@@ -1,6 +1,7 @@
 //! Makes inputs for the scanner, a text and a size each; the same ones each time.
 //!
 //! exhaustive  every short text over small alphabets; below the whole number, COUNT of them drawn in order
+//! followed    the same texts, each with blanks behind it, so that nothing ends at once
 //! edges       every fragment alone, after a set mark, before a line feed and before the end; drawn likewise
 //! grown       COUNT random rows of fragments, at most 200 bytes each
 //! long        COUNT random rows of some hundred fragments, their quotes and comments closed
@@ -136,6 +137,11 @@ fn exhaustive(each: &mut dyn FnMut(Text)) {
         all_over(alphabet, *most, each);
     }
     all_pairs_of_bytes(each);
+}
+
+// Many scans in one call take their quick way only where some bytes are left.
+fn followed(each: &mut dyn FnMut(Text)) {
+    exhaustive(&mut |text| each([text, repeat(" ", 20)].concat()));
 }
 
 fn edges(each: &mut dyn FnMut(Text)) {
@@ -363,6 +369,7 @@ pub fn make(mode: &str, count: usize, seed: u64, each: Each) -> bool {
     let rng = &mut Rng(seed);
     match mode {
         "exhaustive" => draw_each(rng, count, exhaustive, each),
+        "followed" => draw_each(rng, count, followed, each),
         "edges" => draw_each(rng, count, edges, each),
         "limits" => draw_each(rng, count, limits, each),
         "grown" => make_each(rng, count, grown, each),
