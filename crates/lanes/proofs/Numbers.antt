@@ -8,7 +8,7 @@ use lib.Arith.{digits-lt, digits-div, digits-mod, mod-mul}
 use lib.Bits.{bitAnd, and-mask}
 use lib.Dec.{T, ltb, lit<, leb→le}
 use native.Mathlib.Decide.{decLe}
-use lib.ListN.{length, take, drop, getD, length-take, length-drop, drop-of-length-le}
+use lib.ListN.{length, take, drop, getD, length-drop, drop-of-length-le}
 use lib.Pow.{pow-add, pow-mono, pow-pos, areBytes}
 use lib.Seq.{take-nil, take-take, getD-drop}
 use Rattle.basics.proofs.Choice.{and-left, and-right}

@@ -1,7 +1,7 @@
 -- A simple token that was written is one that the lexer says.
 use Prim.Native.Nat.{ℕ, _+_, _-_, _≤_, _<_}
 use mathlib.Core.Path.{_≡_, refl, sym, ap, _∙_}
-use mathlib.Core.Bool.{Bool, true, false, cond, true≢false, false≢true}
+use mathlib.Core.Bool.{Bool, true, false, true≢false, false≢true}
 use mathlib.Core.List.{List}
 use native.Mathlib.Nat.{add-zero}
 use native.Mathlib.Omega.{arith}
@@ -24,7 +24,7 @@ use Rattle.lexer.specs.declared.lexed.Text.the-variants.{Empty, AsRead}
 use Rattle.lexer.specs.declared.lexed.Value.the-variants.{Empty as NoValue}
 use Rattle.lexer.specs.Lexeme.{setsMark}
 use Rattle.lexer.specs.Lex.{lexToken}
-use Rattle.lexer.specs.Made.{answer, madeAt, shownAt}
+use Rattle.lexer.specs.Made.{answer}
 use Rattle.lexer.specs.Placed.{placed, said}
 use Rattle.lexer.proofs.Known.{word-known, word-no-string}
 use Rattle.lexer.proofs.Dispatch.{word-is}
@@ -32,7 +32,7 @@ use Rattle.lexer.proofs.Tokens.{identifier-said, keyword-said}
 use Rattle.scanner.specs.declared.next.Next.{Next}
 use Rattle.scanner.specs.Layout.{tokenNumbers}
 use Rattle.scanner.specs.Steps.{tokenBy}
-use Rattle.scanner.specs.Simple.{IsKeywords, simpleToken, wordOf, Gave, Gives}
+use Rattle.scanner.specs.Simple.{IsKeywords, simpleToken, wordOf, Gives}
 
 module _ (src : List ℕ) (at safe position : ℕ) (tokens : List ℕ) (to : ℕ) where
   -- none

@@ -31,7 +31,7 @@ use Rattle.scanner.proofs.Scans.{held}
 use Rattle.scanner.proofs.Fitting.{fits-after}
 use Rattle.scanner.proofs.Given.{left-more}
 use Rattle.scanner.proofs.LineStarts.{skip-line-within}
-use Rattle.scanner.proofs.SimpleScans.{Recorded, start-over, end-over, given, gives}
+use Rattle.scanner.proofs.SimpleScans.{Recorded, end-over, given, gives}
 
 -- what the scan of a try that is done leaves
 abbrev tried : Tried → List ℕ → List ℕ → List ℕ → After

@@ -1,13 +1,13 @@
 -- A plain token behind blanks with at most one line feed is given as a scan gives it, where it ends before the size and the table has room.
-use Prim.Native.Nat.{ℕ, _+_, _-_, _≤_, _<_, _^_}
-use mathlib.Core.Path.{_≡_, refl, sym, ap, _∙_}
+use Prim.Native.Nat.{ℕ, _+_, _-_, _≤_, _<_}
+use mathlib.Core.Path.{_≡_, sym, ap, _∙_}
 use mathlib.Core.Bool.{true, false, true≢false}
 use mathlib.Core.List.{List, [], _∷_}
 use mathlib.Core.Logic.{_⊎_, inl, inr}
 use native.Mathlib.Nat.{add-zero}
 use native.Mathlib.Omega.{arith}
 use lib.Dec.{eqb}
-use lib.ListN.{length, drop, set, length-set}
+use lib.ListN.{length, set, length-set}
 use lib.Seq.{sets}
 use borrow.Author.Tests.{le-leb, eqb-true}
 use Rattle.utf8.specs.Chars.{chars}
@@ -15,7 +15,7 @@ use Rattle.token.specs.Kinds.{EOF}
 use Rattle.position.proofs.Place.{Fit, fit}
 use Rattle.errors.specs.Errors.{roomOf}
 use Rattle.blanks.specs.declared.Skipped.{Skipped}
-use Rattle.blanks.specs.Blank.{skip, skippedAt}
+use Rattle.blanks.specs.Blank.{skip}
 use Rattle.lexer.specs.declared.lexed.Lexed.{Lexed}
 use Rattle.state.specs.declared.state.State.{State}
 use Rattle.state.specs.Fits.{fileOf, fits}
@@ -26,10 +26,10 @@ use Rattle.scanner.specs.Scan.{scanOf}
 use Rattle.scanner.specs.Steps.{Reads, toWrite, isPlain, refusalBy, stateBy, tokenBy, startsFrom}
 use Rattle.scanner.specs.Quick.{doneWith, TriesOn}
 use Rattle.scanner.proofs.Refusals.{refusal-none, list-none}
-use Rattle.scanner.proofs.Pass.{left, start-behind, read, read-bound, end-behind, feeds-read, starts-feeds, sets-none, offset-fits}
+use Rattle.scanner.proofs.Pass.{left, start-behind, read, read-bound, end-behind, feeds-read, starts-feeds, sets-none}
 use Rattle.scanner.proofs.Scans.{Held, held, scan-gave}
 use Rattle.scanner.proofs.Committed.{plain, commit-plain-is}
-use Rattle.scanner.proofs.LineStarts.{skip-line-within, starts-one}
+use Rattle.scanner.proofs.LineStarts.{starts-one}
 
 -- what is written: nothing, or behind one line feed where the next line starts
 abbrev pub Recorded : State → Skipped → List ℕ → List ℕ → Type 0
@@ -69,7 +69,7 @@ module _ (src : List ℕ) (s : State) (table list : List ℕ) (b : Skipped) (x :
   abbrev here : ℕ
   here = read src s start start-at x (r .token)
 
-  pub start-over : s .place ≤ start
+  start-over : s .place ≤ start
   start-over = start-behind src s start start-at
 
   pub end-over : start ≤ x .end

@@ -8,7 +8,7 @@ use native.Mathlib.Omega.{arith}
 use native.Mathlib.Decide.{decLt}
 use lib.Dec.{T, eqb, leb, ltb}
 use lib.ListN.{length, getD, drop}
-use borrow.Author.Tests.{ne-eqb, eqb-true, eqb-false, ltb-true, leb-true, leb-false, eq-eqb, not-true, not-false}
+use borrow.Author.Tests.{ne-eqb, eqb-true, ltb-true, leb-true, leb-false, eq-eqb, not-true}
 use Rattle.basics.specs.Between.{between}
 use Rattle.basics.specs.Same.{same}
 use Rattle.basics.specs.Spelling.{spelled}
@@ -20,6 +20,7 @@ use Rattle.utf8.specs.Chars.{chars}
 use Rattle.digits.specs.Digit.{isDecimal}
 use Rattle.token.specs.Kinds.{ILLEGAL, EOF, IDENT, INT, STRING, ADD, LPAREN, LBRACK, LBRACE, COMMA, PERIOD, RPAREN, RBRACK, RBRACE, SEMICOLON, COLON, BREAK, VAR}
 use Rattle.token.specs.Table.{Row, operators, identToken}
+use Rattle.token.specs.Precedence.{among as isOneOf}
 use Rattle.token.proofs.Ranges.{value-within}
 use Rattle.token.proofs.Words.{word-kind}
 use Rattle.words.specs.Word.{isLetter}
@@ -27,18 +28,17 @@ use Rattle.operators.specs.declared.Operator.{Operator}
 use Rattle.operators.specs.Longest.{begins, op, longest, operatorOf}
 use Rattle.operators.proofs.Leading.{among}
 use Rattle.operators.proofs.Rows.{row, one-is, period-is}
-use Rattle.lexer.specs.declared.lexed.Text.the-variants.{Empty, AsRead}
+use Rattle.lexer.specs.declared.lexed.Text.the-variants.{Empty}
 use Rattle.lexer.specs.declared.lexed.Value.the-variants.{Empty as NoValue}
 use Rattle.lexer.specs.Lexeme.{setsMark}
-use Rattle.lexer.specs.Words.{lexWord}
 use Rattle.lexer.specs.Lex.{lexOperator, lexBy, lexToken}
 use Rattle.lexer.specs.Made.{madeAt, insertedAt}
 use Rattle.lexer.specs.Placed.{placed, said}
 use Rattle.lexer.proofs.Said.{semicolon-said}
 use Rattle.lexer.proofs.Tokens.{operator-fits, operator-said}
 use Rattle.lexer.proofs.Opened.{open-chars}
-use Rattle.lexer.proofs.Dispatch.{word-is, feed-is, operator-is}
-use Rattle.scanner.specs.Simple.{isOneOf, startsOperator, firstKind, IsTable}
+use Rattle.lexer.proofs.Dispatch.{feed-is, operator-is}
+use Rattle.scanner.specs.Simple.{startsOperator, firstKind}
 
 -- ---- what a byte tells, by computing each
 -- what only bytes tell of which a test holds

@@ -1,8 +1,8 @@
 -- Simple tokens, as the code of many scans reads them. No public contract cites this.
 use Prim.Native.Nat.{ℕ, _+_, _-_, _<_}
 use mathlib.Core.Path.{_≡_}
-use mathlib.Core.Bool.{Bool, true, false, cond, _||_}
-use mathlib.Core.List.{List, [], _∷_}
+use mathlib.Core.Bool.{Bool, true, false, cond}
+use mathlib.Core.List.{List}
 use lib.Dec.{eqb}
 use lib.ListN.{length, drop, getD}
 use lib.Seq.{sets}
@@ -10,6 +10,7 @@ use Rattle.basics.specs.Spelling.{spelled}
 use Rattle.utf8.specs.Chars.{chars}
 use Rattle.digits.specs.Digit.{isDecimal}
 use Rattle.token.specs.Kinds.{ILLEGAL, EOF, IDENT, INT, STRING, ADD, LPAREN, LBRACK, LBRACE, COMMA, PERIOD, RPAREN, RBRACK, RBRACE, SEMICOLON}
+use Rattle.token.specs.Precedence.{among}
 use Rattle.token.specs.Table.{keywords}
 use Rattle.token.specs.Search.{bySlot, rowIn}
 use Rattle.words.specs.Word.{isLetter}
@@ -21,14 +22,9 @@ use Rattle.scanner.specs.declared.next.Next.{Next}
 use Rattle.scanner.specs.Layout.{tokenNumbers}
 use Rattle.scanner.specs.Steps.{isPlain, tokenBy}
 
--- whether a number is one of a list
-abbrev pub isOneOf : ℕ → List ℕ → Bool
-isOneOf b [] = false
-isOneOf b (k ∷ ks) = eqb b k || isOneOf b ks
-
 -- the first bytes of operators, but for a slash, which may start a comment
 unfoldable pub startsOperator : ℕ → Bool
-startsOperator b = isOneOf b (spelled "!%&*+-:<=>^|")
+startsOperator b = among b (spelled "!%&*+-:<=>^|")
 
 -- what a first byte tells
 unfoldable pub firstKind : ℕ → ℕ

@@ -1,11 +1,11 @@
 -- A rule at each number of a range, and a test that agrees with a range, by one test that antt computes.
 use Prim.Native.Nat.{ℕ, _+_, _-_, _≤_, _<_}
-use mathlib.Core.Path.{_≡_, refl, subst}
-use mathlib.Core.Bool.{Bool, true, false, Bool·beq}
+use mathlib.Core.Path.{_≡_, subst}
+use mathlib.Core.Bool.{Bool, Bool·beq}
 use native.Mathlib.Omega.{arith}
 use lib.Dec.{T, eqb, eqb→eq}
 use Rattle.basics.specs.Between.{between}
-use Rattle.basics.proofs.Choice.{same-test, true-of}
+use Rattle.basics.proofs.Choice.{same-test}
 use Rattle.basics.proofs.Every.{below, every-below}
 
 -- the test f passes at each of the n numbers from lo on

@@ -1,7 +1,7 @@
 -- `simple::operator` meets its contract: there is an operator, as its first byte is one by itself.
 use Prim.Native.Nat.{_+_}
 use mathlib.Core.Bool.{false}
-use mathlib.Core.Path.{ap, _∙_}
+use mathlib.Core.Path.{_∙_}
 use native.Mathlib.Nat.{add-zero}
 use native.Mathlib.Omega.{arith}
 use borrow.Author.Tests.{ne-eqb}

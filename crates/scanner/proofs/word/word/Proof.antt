@@ -1,5 +1,5 @@
 -- `word::word` meets its contract: a run that ends within eight bytes is the word, and the tables of keywords tell its kind.
-use Prim.Native.Nat.{_+_, _<_}
+use Prim.Native.Nat.{_<_}
 use mathlib.Core.Path.{_≡_, sym, ap, _∙_}
 use native.Mathlib.Omega.{arith}
 use lib.ListN.{take, drop, length-drop}
