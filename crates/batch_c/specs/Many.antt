@@ -6,7 +6,7 @@ use lib.Dec.{eqb, ltb}
 use lib.ListN.{length}
 use lib.Seq.{sets}
 use Rattle.state.specs.Layout.{stateWidth, stateIn, stateNumbers}
-use Rattle.scanner.specs.Many.{Left, manyOf, tokenRoom, leftBy}
+use Rattle.batch.specs.Many.{Left, manyOf, tokenRoom, leftBy}
 
 -- what the exported function leaves in the lent slices, and its refusal or 0
 pub record Scans : Type 0 where

@@ -28,7 +28,7 @@ pub extern "C" fn scanner_scan_many(
     if answer.len() < 1 {
         return refusal::DOES_NOT_FIT;
     }
-    let ran = scanner::scan_many(src, state_in(state), table, list, area, tokens);
+    let ran = batch::scan_many(src, state_in(state), table, list, area, tokens);
     answer[0] = ran.count;
     if ran.count == 0 {
         return ran.refusal;

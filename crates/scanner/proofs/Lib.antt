@@ -5,15 +5,6 @@ pub mod Refusals
 pub mod Scans
 pub mod Fitting
 pub mod Committed
-pub mod Parts
-pub mod Spaces
-pub mod Given
+pub mod LineStarts
 pub mod Ends
 pub mod Tries
-pub mod SimpleTokens
-pub mod Giving
-pub mod DecimalTokens
-pub mod StringTokens
-pub mod LineStarts
-pub mod SimpleScans
-pub mod Runs

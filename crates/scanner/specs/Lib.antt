@@ -1,7 +1,3 @@
 pub mod Scan
 pub mod Steps
-pub mod Layout
-pub mod Many
-pub mod Near
-pub mod Simple
 pub mod Quick

@@ -9,7 +9,7 @@ ghost use lib.Dec.{eqb};
 ghost use Rattle.token.specs.Kinds.{STRING};
 ghost use Rattle.lexer.specs.Placed.{lengthOf};
 ghost use Rattle.scanner.specs.Scan.{partFrom, noToken};
-ghost use Rattle.scanner.specs.Steps.{textLen, valueLen, tokenBy};
+ghost use Rattle.scanner.specs.Steps.{textLen, valueLen, tokenBy, isPlain};
 
 pub struct Token {
     pub kind: u8,
@@ -99,6 +99,19 @@ fn value_start(x: Lexed, start: usize, text_end: usize) -> usize
         return start + 1;
     }
     start
+}
+
+// Is it a token without an error, whose text and value are the source's own bytes?
+pub(crate) fn is_plain(x: Lexed) -> bool
+    ensures { λ r. ⌜ r ≡ isPlain x ⌝ }
+{
+    if x.error != 0 {
+        return false;
+    }
+    if x.text_differs {
+        return false;
+    }
+    !x.value_differs
 }
 
 // The token that was read at a place, with its position.

@@ -1,23 +1,11 @@
-// The scanner: opening a text, one scan or many, and questions about it.
+// The scanner: opening a text, one scan, and questions about it.
 mod answer;
-mod batch;
-mod first;
-mod layout;
-mod literal;
-mod near;
-mod next;
 mod quick;
-mod run;
 mod scanning;
-mod simple;
-mod word;
 mod write;
 
 pub use answer::Scanned;
 pub use answer::Token;
-pub use batch::Batch;
-pub use batch::scan_many;
-pub use layout::put_token;
 pub use scanning::scan;
 pub use state::Opened;
 pub use state::Part;

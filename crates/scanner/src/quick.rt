@@ -1,8 +1,8 @@
 // Quick scans: of tokens that show the source's own bytes and end before the size, where the table has room. What they do not do, they leave as it was.
 use crate::answer::Token;
+use crate::answer::is_plain;
 use crate::answer::no_token;
 use crate::answer::plain_token;
-use crate::scanning::is_plain;
 use blanks::Skipped;
 use lexer::Lexed;
 use state::State;

@@ -1,5 +1,6 @@
 // One scan: a pass that only reads, the checks, and then what is written.
 use crate::answer::Scanned;
+use crate::answer::is_plain;
 use crate::answer::plain_token;
 use crate::answer::refused;
 use crate::answer::token_of;
@@ -146,19 +147,6 @@ fn record_error(after: State, table: &[usize], list: &mut [usize], count: usize,
     write_error(after, table, list, count, number);
 }
 
-// Is it a token without an error, whose text and value are the source's own bytes?
-pub(crate) fn is_plain(x: Lexed) -> bool
-    ensures { λ r. ⌜ r ≡ isPlain x ⌝ }
-{
-    if x.error != 0 {
-        return false;
-    }
-    if x.text_differs {
-        return false;
-    }
-    !x.value_differs
-}
-
 // What commit leaves and answers for a plain token: nothing goes to the list or the area.
 fn commit_plain(
     src: &[u8],
@@ -260,7 +248,7 @@ fn finish(
 }
 
 // Scans one token where the state fits: a pass that only reads, the checks, and then what is written.
-pub(crate) fn scan_next(
+fn scan_next(
     src: &[u8],
     state: State,
     table: &mut [usize],

@@ -14,7 +14,7 @@ use Rattle.state.specs.Layout.{stateWidth, stateIn, stateNumbers}
 use Rattle.state.specs.Opening.{Begun, openOf}
 use Rattle.state.specs.Queries.{positionIn, lineStartIn, errorIn}
 use Rattle.scanner.specs.Scan.{After, scanOf}
-use Rattle.scanner.specs.Layout.{tokenWidth, tokenNumbers}
+use Rattle.batch.specs.Layout.{tokenWidth, tokenNumbers}
 
 -- what opening leaves in the lent slices, and its refusal or 0
 pub record Opened : Type 0 where

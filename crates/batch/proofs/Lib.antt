@@ -1,0 +1,9 @@
+pub mod Parts
+pub mod Spaces
+pub mod Given
+pub mod SimpleTokens
+pub mod Giving
+pub mod DecimalTokens
+pub mod StringTokens
+pub mod SimpleScans
+pub mod Runs

@@ -1,0 +1,300 @@
+-- What the first byte tells, and that an operator, a delimiter or a line feed is what the lexer reads.
+use Prim.Native.Nat.{ℕ, _+_, _≤_, _<_}
+use mathlib.Core.Path.{_≡_, refl, sym, ap, subst, _∙_}
+use mathlib.Core.Bool.{Bool, true, false, cond, not, _||_, _&&_, true≢false, false≢true}
+use mathlib.Core.List.{List, [], _∷_}
+use mathlib.Core.Logic.{_≢_, _⊎_, inl, inr, ⊎-elim}
+use native.Mathlib.Omega.{arith}
+use native.Mathlib.Decide.{decLt}
+use lib.Dec.{T, eqb, leb, ltb}
+use lib.ListN.{length, getD, drop}
+use borrow.Author.Tests.{ne-eqb, eqb-true, ltb-true, leb-true, leb-false, eq-eqb, not-true}
+use Rattle.basics.specs.Between.{between}
+use Rattle.basics.specs.Same.{same}
+use Rattle.basics.specs.Spelling.{spelled}
+use Rattle.basics.proofs.Choice.{either, cond-ind, and-left, and-right, between-true, below-it, above-it, true-of}
+use Rattle.basics.proofs.Every.{below, every-below}
+use Rattle.basics.proofs.Lists.{reach, same-true}
+use Rattle.utf8.specs.declared.Char.{Char}
+use Rattle.utf8.specs.Chars.{chars}
+use Rattle.digits.specs.Digit.{isDecimal}
+use Rattle.token.specs.Kinds.{ILLEGAL, EOF, IDENT, INT, STRING, ADD, LPAREN, LBRACK, LBRACE, COMMA, PERIOD, RPAREN, RBRACK, RBRACE, SEMICOLON, COLON, BREAK, VAR}
+use Rattle.token.specs.Table.{Row, operators, identToken}
+use Rattle.token.specs.Precedence.{among as isOneOf}
+use Rattle.token.proofs.Ranges.{value-within}
+use Rattle.token.proofs.Words.{word-kind}
+use Rattle.words.specs.Word.{isLetter}
+use Rattle.operators.specs.declared.Operator.{Operator}
+use Rattle.operators.specs.Longest.{begins, op, longest, operatorOf}
+use Rattle.operators.proofs.Leading.{among}
+use Rattle.operators.proofs.Rows.{row, one-is, period-is}
+use Rattle.lexer.specs.declared.lexed.Text.the-variants.{Empty}
+use Rattle.lexer.specs.declared.lexed.Value.the-variants.{Empty as NoValue}
+use Rattle.lexer.specs.Lexeme.{setsMark}
+use Rattle.lexer.specs.Lex.{lexOperator, lexBy, lexToken}
+use Rattle.lexer.specs.Made.{madeAt, insertedAt}
+use Rattle.lexer.specs.Placed.{placed, said}
+use Rattle.lexer.proofs.Said.{semicolon-said}
+use Rattle.lexer.proofs.Tokens.{operator-fits, operator-said}
+use Rattle.lexer.proofs.Opened.{open-chars}
+use Rattle.lexer.proofs.Dispatch.{feed-is, operator-is}
+use Rattle.batch.specs.Simple.{startsOperator, firstKind}
+
+-- ---- what a byte tells, by computing each
+-- what only bytes tell of which a test holds
+only : (kind : ℕ) (P : ℕ → Bool) → T (below (λ x. not (eqb (firstKind x) kind) || P x) 256) → (b : ℕ) → b < 256 → firstKind b ≡ kind → P b ≡ true
+only kind P all b h e =
+    rw (eq-eqb (firstKind b) kind e) at (true-of (not (eqb (firstKind b) kind) || P b) (every-below (λ x. not (eqb (firstKind x) kind) || P x) 256 all b h))
+
+pub letter-first : (b : ℕ) → b < 256 → firstKind b ≡ IDENT → isLetter b ≡ true
+unfolding firstKind startsOperator isLetter
+letter-first = only IDENT isLetter tt
+
+pub operator-first : (b : ℕ) → b < 256 → firstKind b ≡ ADD → startsOperator b ≡ true
+unfolding firstKind startsOperator isLetter
+operator-first = only ADD startsOperator tt
+
+pub digit-first : (b : ℕ) → b < 256 → firstKind b ≡ INT → isDecimal b ≡ true
+unfolding firstKind startsOperator isLetter
+digit-first = only INT isDecimal tt
+
+pub quote-first : (b : ℕ) → b < 256 → firstKind b ≡ STRING → b ≡ 34
+unfolding firstKind startsOperator isLetter
+quote-first b h e = eqb-true b 34 (only STRING (λ x. eqb x 34) tt b h e)
+
+pub first-small : (b : ℕ) → b < 256 → firstKind b < 128
+unfolding firstKind startsOperator isLetter
+first-small b h = ltb-true (firstKind b) 128 (true-of _ (every-below (λ x. ltb (firstKind x) 128) 256 tt b h))
+
+-- a digit tells a number
+pub first-digit : (b : ℕ) → isDecimal b ≡ true → firstKind b ≡ INT
+unfolding firstKind startsOperator isLetter
+first-digit b d = let q = between-true 48 b 57 d in sym (value-within firstKind INT 48 10 tt b (q .0) (omega (arith, q .1)))
+
+pub first-known : (b : ℕ) → b < 256 → eqb (firstKind b) EOF ≡ false
+unfolding firstKind startsOperator isLetter
+first-known b h = not-true _ (true-of _ (every-below (λ x. not (eqb (firstKind x) EOF)) 256 tt b h))
+
+-- the kind of a word is that of an identifier or a keyword
+pub word-small : (kind : ℕ) (word : List ℕ) → kind ≡ identToken word → kind < 128
+word-small kind word e =
+    ⊎-elim (λ i. omega (arith, e, i)) (λ t. let q = between-true BREAK (identToken word) VAR t in omega (arith, e, q .1)) (word-kind word)
+
+-- ---- what holds of each delimiter holds of a byte that tells something, but no word, operator, string or number
+one-of : (P : ℕ → Type 0) (b x kind rest : ℕ) → P x → (rest ≢ ILLEGAL → P b) → cond (eqb b x) kind rest ≢ ILLEGAL → P b
+one-of P b x kind rest here more n =
+    ⊎-elim (λ (e : eqb b x ≡ true). subst P (sym (eqb-true b x e)) here) (λ (e : eqb b x ≡ false). more (rw e at n)) (either (eqb b x))
+
+no-letter : (b : ℕ) → firstKind b ≢ IDENT → isLetter b ≡ false
+unfolding firstKind
+no-letter b n = ⊎-elim (λ (e : isLetter b ≡ true). absurd (n (rw e))) (λ e. e) (either (isLetter b))
+
+no-operator : (b : ℕ) → isLetter b ≡ false → firstKind b ≢ ADD → startsOperator b ≡ false
+unfolding firstKind
+no-operator b l n = ⊎-elim (λ (e : startsOperator b ≡ true). absurd (n (rw (l, e)))) (λ e. e) (either (startsOperator b))
+
+no-quote : (b : ℕ) → firstKind b ≢ STRING → eqb b 34 ≡ false
+unfolding firstKind startsOperator isLetter
+no-quote b n = ne-eqb b 34 (λ e. n (ap firstKind e))
+
+pub no-digit : (b : ℕ) → firstKind b ≢ INT → isDecimal b ≡ false
+no-digit b n = ⊎-elim (λ (e : isDecimal b ≡ true). absurd (n (first-digit b e))) (λ e. e) (either (isDecimal b))
+
+delimiter-ind : (P : ℕ → Type 0) → P 40 → P 41 → P 44 → P 46 → P 59 → P 91 → P 93 → P 123 → P 125
+    → (b : ℕ) → firstKind b ≢ ILLEGAL → firstKind b ≢ IDENT → firstKind b ≢ ADD → firstKind b ≢ STRING → firstKind b ≢ INT → P b
+unfolding firstKind
+delimiter-ind P lparen rparen comma period semicolon lbrack rbrack lbrace rbrace b n i a q d =
+    (one-of P b 40 LPAREN _ lparen
+    (one-of P b 41 RPAREN _ rparen
+    (one-of P b 44 COMMA _ comma
+    (one-of P b 46 PERIOD _ period
+    (one-of P b 59 SEMICOLON _ semicolon
+    (one-of P b 91 LBRACK _ lbrack
+    (one-of P b 93 RBRACK _ rbrack
+    (one-of P b 123 LBRACE _ lbrace
+    (one-of P b 125 RBRACE _ rbrace (λ z. absurd (z (rw (no-quote b q, no-digit b d)))))))))))))
+    (rw (no-letter b i, no-operator b (no-letter b i) a) at n)
+
+-- a letter is past the digits and the point
+pub letter-past : (b : ℕ) → isLetter b ≡ true → 65 ≤ b
+unfolding isLetter
+letter-past b t =
+    elim (decLt b 65) [
+      | yes h ↦ absurd (true≢false (sym t ∙ rw (below-it 97 b 122 (omega arith), below-it 65 b 90 (omega arith), ne-eqb b 95 (λ e. omega arith))))
+      | no h ↦ omega arith
+    ]
+
+-- ---- operators
+-- what holds of each number of a list holds of one of them
+data Each (P : ℕ → Type 0) : List ℕ → Type 0 where
+  none : Each P []
+  also : {k : ℕ} {ks : List ℕ} → P k → Each P ks → Each P (k ∷ ks)
+
+one-ind : (P : ℕ → Type 0) (ks : List ℕ) → Each P ks → (b : ℕ) → isOneOf b ks ≡ true → P b
+one-ind P [] none b t = absurd (false≢true t)
+one-ind P (k ∷ ks) (also here more) b t =
+    ⊎-elim (λ (e : eqb b k ≡ true). subst P (sym (eqb-true b k e)) here) (λ (e : eqb b k ≡ false). one-ind P ks more b (rw e at t)) (either (eqb b k))
+
+-- a row has this spelling
+abbrev spells : List ℕ → List Row → Bool
+spells xs [] = false
+spells xs (row ∷ rows) = same xs (row .name) || spells xs rows
+
+-- the longest is no shorter than a spelling that the characters begin with
+longest-least : (xs : List ℕ) (rows : List Row) (r : List Char) → begins xs r ≡ true → spells xs rows ≡ true → length xs ≤ longest rows r .len
+unfolding longest
+longest-least xs [] r b t = absurd (false≢true t)
+longest-least xs (row ∷ rows) r b t =
+    let P : Operator → Type 0 = λ x. length xs ≤ x .len in
+    let rest = longest rows r in
+    ⊎-elim
+    (λ (e : same xs (row .name) ≡ true).
+    rw (← same-true xs (row .name) e, b)
+    (cond-ind P (leb (rest .len) (length xs)) _ _ (λ _. omega arith) (λ l. omega (arith, leb-false (rest .len) (length xs) l))))
+    (λ (e : same xs (row .name) ≡ false).
+    let ih = longest-least xs rows r b (rw e at t) in
+    cond-ind P (begins (row .name) r) _ _
+    (λ _. cond-ind P (leb (rest .len) (length (row .name))) _ _ (λ l. omega (arith, ih, leb-true (rest .len) (length (row .name)) l)) (λ _. ih)) (λ _. ih))
+    (either (same xs (row .name)))
+
+-- the kinds of the rows are from ADD to COLON
+abbrev allProper : List Row → Bool
+allProper [] = true
+allProper (row ∷ rows) = between ADD (row .kind) COLON && allProper rows
+
+longest-proper : (rows : List Row) (r : List Char) → T (allProper rows) → (longest rows r .len ≡ 0) ⊎ (between ADD (longest rows r .kind) COLON ≡ true)
+unfolding longest
+longest-proper [] r t = inl refl
+longest-proper (row ∷ rows) r t =
+    let P : Operator → Type 0 = λ x. (x .len ≡ 0) ⊎ (between ADD (x .kind) COLON ≡ true) in
+    let here = true-of _ (and-left (between ADD (row .kind) COLON) (allProper rows) t) in
+    let rest = longest-proper rows r (and-right (between ADD (row .kind) COLON) (allProper rows) t) in
+    cond-ind P (begins (row .name) r) _ _
+    (λ _. cond-ind P (leb (longest rows r .len) (length (row .name))) _ _ (λ _. inr here) (λ _. rest)) (λ _. rest)
+
+-- no row is of more than three characters
+abbrev allShort : List Row → Bool
+allShort [] = true
+allShort (row ∷ rows) = leb (length (row .name)) 3 && allShort rows
+
+longest-short : (rows : List Row) (r : List Char) → T (allShort rows) → longest rows r .len ≤ 3
+unfolding longest
+longest-short [] r t = omega arith
+longest-short (row ∷ rows) r t =
+    let P : Operator → Type 0 = λ x. x .len ≤ 3 in
+    let here = leb-true _ _ (true-of _ (and-left (leb (length (row .name)) 3) (allShort rows) t)) in
+    let rest = longest-short rows r (and-right (leb (length (row .name)) 3) (allShort rows) t) in
+    cond-ind P (begins (row .name) r) _ _
+    (λ _. cond-ind P (leb (longest rows r .len) (length (row .name))) _ _ (λ _. here) (λ _. rest)) (λ _. rest)
+
+-- each of those first bytes is an operator by itself, and no other rule reads it
+abbrev ByItself : ℕ → Type 0
+ByItself b = T (ltb 0 b && (ltb b 0x80 && spells (b ∷ []) operators)) × ((mark : Bool) (r : List Char) → lexBy mark b r ≡ lexOperator mark r)
+
+starts : (b : ℕ) → startsOperator b ≡ true → ByItself b
+unfolding startsOperator lexBy isLetter operators same
+starts =
+    one-ind ByItself (spelled "!%&*+-:<=>^|")
+    (also (tt, λ mark r. refl)
+    (also (tt, λ mark r. refl)
+    (also (tt, λ mark r. refl)
+    (also (tt, λ mark r. refl)
+    (also (tt, λ mark r. refl)
+    (also (tt, λ mark r. refl)
+    (also (tt, λ mark r. refl)
+    (also (tt, λ mark r. refl)
+    (also (tt, λ mark r. refl)
+    (also (tt, λ mark r. refl)
+    (also (tt, λ mark r. refl)
+    (also (tt, λ mark r. refl) none))))))))))))
+
+-- ---- the token at a place whose byte is a delimiter
+module _ (s : List ℕ) (at : ℕ) (mark : Bool) where
+  by-byte : (x : ℕ) → 0 < x → x < 0x80 → getD s at 0 ≡ x → lexToken mark (chars (drop at s)) ≡ lexBy mark x (chars (drop at s))
+  unfolding lexToken
+  by-byte x some low e = rw (open-chars s at x some low e)
+
+  operator-read : (x kind : ℕ) → 0 < x → x < 0x80 → getD s at 0 ≡ x → op kind 1 ≡ operatorOf (chars (drop at s)) → kind ≢ ILLEGAL
+      → lexBy mark x (chars (drop at s)) ≡ lexOperator mark (chars (drop at s))
+      → said s at (madeAt kind at (at + 1) (setsMark kind) Empty NoValue) ≡ placed s at (lexToken mark (chars (drop at s)))
+  operator-read x kind some low e is n by =
+      operator-said s at mark (op kind 1) is n ∙ ap (placed s at) (sym (by-byte x some low e ∙ by))
+
+  -- one that begins no other
+  alone : (x kind : ℕ) → 0 < x → x < 0x80 → among x operators ≡ row kind (x ∷ []) ∷ [] → kind ≢ ILLEGAL
+      → lexBy mark x (chars (drop at s)) ≡ lexOperator mark (chars (drop at s))
+      → getD s at 0 ≡ x → said s at (madeAt kind at (at + 1) (setsMark kind) Empty NoValue) ≡ placed s at (lexToken mark (chars (drop at s)))
+  alone x kind some low rows n by e = operator-read x kind some low e (one-is s at x e kind rows) n by
+
+  -- a point before a letter
+  point : isLetter (getD s (at + 1) 0) ≡ true
+      → getD s at 0 ≡ 46 → said s at (madeAt PERIOD at (at + 1) (setsMark PERIOD) Empty NoValue) ≡ placed s at (lexToken mark (chars (drop at s)))
+  unfolding lexBy isLetter
+  point l e =
+      let p = letter-past (getD s (at + 1) 0) l in
+      let no-point = ne-eqb (getD s (at + 1) 0) 46 (λ z. omega (arith, p, z)) in
+      let no-digit = above-it 48 (getD s (at + 1) 0) 57 (omega (arith, p)) (omega (arith, p)) in
+      operator-read 46 PERIOD (omega arith) (omega arith) e (rw no-point at (period-is s at e)) (λ z. omega arith)
+      (sym (rw e at (operator-is mark s at (reach s at (omega (arith, e))) (getD s (at + 1) 0) refl (rw (e, no-digit)) (rw e) (rw (e, no-point)))))
+
+  -- the delimiter by what its byte tells
+  abbrev Reads : ℕ → Type 0
+  Reads b =
+      getD s at 0 ≡ b → (firstKind b ≡ PERIOD → isLetter (getD s (at + 1) 0) ≡ true)
+      → said s at (madeAt (firstKind b) at (at + 1) (setsMark (firstKind b)) Empty NoValue) ≡ placed s at (lexToken mark (chars (drop at s)))
+
+  point-read : Reads 46
+  unfolding firstKind startsOperator isLetter
+  point-read e p = point (p refl) e
+
+  pub delimiter-read : (b : ℕ) → firstKind b ≢ ILLEGAL → firstKind b ≢ IDENT → firstKind b ≢ ADD → firstKind b ≢ STRING → firstKind b ≢ INT → Reads b
+  unfolding firstKind startsOperator isLetter lexBy operators
+  delimiter-read =
+      delimiter-ind Reads
+      (λ e p. alone 40 LPAREN (omega arith) (omega arith) refl (λ z. omega arith) refl e)
+      (λ e p. alone 41 RPAREN (omega arith) (omega arith) refl (λ z. omega arith) refl e)
+      (λ e p. alone 44 COMMA (omega arith) (omega arith) refl (λ z. omega arith) refl e)
+      point-read
+      (λ e p. alone 59 SEMICOLON (omega arith) (omega arith) refl (λ z. omega arith) refl e)
+      (λ e p. alone 91 LBRACK (omega arith) (omega arith) refl (λ z. omega arith) refl e)
+      (λ e p. alone 93 RBRACK (omega arith) (omega arith) refl (λ z. omega arith) refl e)
+      (λ e p. alone 123 LBRACE (omega arith) (omega arith) refl (λ z. omega arith) refl e)
+      (λ e p. alone 125 RBRACE (omega arith) (omega arith) refl (λ z. omega arith) refl e)
+
+  -- the semicolon before a line feed
+  pub feed-read : getD s at 0 ≡ 10 → said s at (insertedAt at) ≡ placed s at (lexToken mark (chars (drop at s)))
+  feed-read e = semicolon-said s at ∙ ap (placed s at) (feed-is mark s at (reach s at (omega (arith, e))) e)
+
+-- ---- the operator at a place
+module _ (s : List ℕ) (at : ℕ) (o : Operator) (is : o ≡ operatorOf (chars (drop at s))) (h : startsOperator (getD s at 0) ≡ true) where
+  -- the byte there
+  first-byte : (0 < getD s at 0) × (getD s at 0 < 0x80) × (spells (getD s at 0 ∷ []) operators ≡ true)
+  first-byte =
+      let b = getD s at 0 in
+      let t = starts b h .0 in
+      let u = and-right (ltb 0 b) _ t in
+      (ltb-true 0 b (true-of _ (and-left (ltb 0 b) _ t)), ltb-true b 0x80 (true-of _ (and-left (ltb b 0x80) _ u)), true-of _ (and-right (ltb b 0x80) _ u))
+
+  begins-there : begins (getD s at 0 ∷ []) (chars (drop at s)) ≡ true
+  unfolding begins
+  begins-there = rw (open-chars s at (getD s at 0) (first-byte .0) (first-byte .1) refl, eq-eqb (getD s at 0) (getD s at 0) refl)
+
+  pub operator-kind : (ADD ≤ o .kind) × (o .kind ≤ COLON)
+  unfolding operators
+  operator-kind =
+      let r = chars (drop at s) in
+      let long = longest-least (getD s at 0 ∷ []) operators r begins-there (first-byte .2) in
+      rw is (⊎-elim (λ e. absurd (omega (arith, e, long))) (λ t. between-true ADD (operatorOf r .kind) COLON t) (longest-proper operators r tt))
+
+  pub operator-short : o .len ≤ 3
+  unfolding operators
+  operator-short = rw is (longest-short operators (chars (drop at s)) tt)
+
+  pub operator-within : at + o .len ≤ length s
+  operator-within = operator-fits s at true o is (omega (arith, reach s at (first-byte .0)))
+
+  pub operator-reads : (mark : Bool)
+      → said s at (madeAt (o .kind) at (at + o .len) (setsMark (o .kind)) Empty NoValue) ≡ placed s at (lexToken mark (chars (drop at s)))
+  operator-reads mark =
+      operator-said s at mark o is (λ e. omega (arith, e, operator-kind .0))
+      ∙ ap (placed s at) (sym (by-byte s at mark (getD s at 0) (first-byte .0) (first-byte .1) refl ∙ starts (getD s at 0) h .1 mark (chars (drop at s))))

@@ -1,0 +1,62 @@
+-- `simple::operator` meets its contract: there is an operator, as its first byte is one by itself.
+use Prim.Native.Nat.{_+_}
+use mathlib.Core.Bool.{false}
+use mathlib.Core.Path.{_∙_}
+use native.Mathlib.Nat.{add-zero}
+use native.Mathlib.Omega.{arith}
+use borrow.Author.Tests.{ne-eqb}
+use borrow.Author.Needs.{needs}
+use Rattle.token.specs.Kinds.{EOF, STRING}
+use Rattle.lexer.specs.declared.lexed.Text.the-variants.{Empty}
+use Rattle.lexer.specs.Lexeme.{setsMark}
+use Rattle.batch.proofs.SimpleTokens.{operator-kind, operator-short, operator-within, operator-reads}
+use Rattle.batch.proofs.Giving.{gives-plain}
+use Rattle.batch.proofs.simple.operator.Statement.{statement}
+use Rattle.batch.proofs.simple.operator.Tie as tie
+
+scan-operator-requires : tie.Need-scan-operator-requires
+scan-operator-requires c κs = search needs
+
+put-shown-requires : tie.Need-put-shown-requires
+put-shown-requires c κs = search needs
+
+add-t12 : tie.Need-add-t12
+add-t12 c =
+    let x = c .before .before .before .before .before in
+    let s = x .before .before .before in
+    omega (arith, operator-within (s .args .src .now) (s .args .at) (x .scan-operator .result) (x .scan-operator .ensures) (s .pre .2))
+
+sets-mark-requires : tie.Need-sets-mark-requires
+sets-mark-requires c κs =
+    let x = c .before .before .before .before .before in
+    let s = x .before .before .before in
+    omega (arith, operator-kind (s .args .src .now) (s .args .at) (x .scan-operator .result) (x .scan-operator .ensures) (s .pre .2) .1)
+
+same-length : tie.Need-same-length
+same-length c = search needs
+
+returns : tie.Need-returns
+returns c =
+    let p = c .before .before .before .before in
+    let x = p .before .before in
+    let s = x .before .before .before in
+    let a = s .args in
+    let o = x .scan-operator .result in
+    let is = x .scan-operator .ensures in
+    let k = operator-kind (a .src .now) (a .at) o is (s .pre .2) in
+    let n = operator-short (a .src .now) (a .at) o is (s .pre .2) in
+    gives-plain (a .src .now) (a .at) (a .safe) (a .position) (a .tokens .now) (a .to) (o .kind) (a .at + o .len) false (setsMark (o .kind)) Empty 0
+    (operator-reads (a .src .now) (a .at) o is (s .pre .2))
+    (ne-eqb (o .kind) EOF (λ e. omega (arith, e, k .0))) (ne-eqb (o .kind) STRING (λ e. omega (arith, e, k .0)))
+    (omega (arith, n, s .pre .0)) (rw (c .sets-mark .ensures)) (p .put-shown .ensures ∙ rw (add-zero (a .at)))
+
+pub operator-spec : {M : Type 1} → statement M
+operator-spec =
+    tie.close
+    (tie.spec
+    scan-operator-requires
+    put-shown-requires
+    add-t12
+    sets-mark-requires
+    same-length
+    returns)

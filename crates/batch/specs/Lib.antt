@@ -1,0 +1,5 @@
+pub mod Layout
+pub mod Many
+pub mod Near
+pub mod Simple
+pub mod Run

@@ -1,0 +1,98 @@
+-- Simple tokens, as the code of many scans reads them. No public contract cites this.
+use Prim.Native.Nat.{ℕ, _+_, _-_, _<_}
+use mathlib.Core.Path.{_≡_}
+use mathlib.Core.Bool.{Bool, true, false, cond}
+use mathlib.Core.List.{List}
+use lib.Dec.{eqb}
+use lib.ListN.{length, drop, getD}
+use lib.Seq.{sets}
+use Rattle.basics.specs.Spelling.{spelled}
+use Rattle.utf8.specs.Chars.{chars}
+use Rattle.digits.specs.Digit.{isDecimal}
+use Rattle.token.specs.Kinds.{ILLEGAL, EOF, IDENT, INT, STRING, ADD, LPAREN, LBRACK, LBRACE, COMMA, PERIOD, RPAREN, RBRACK, RBRACE, SEMICOLON}
+use Rattle.token.specs.Precedence.{among}
+use Rattle.token.specs.Table.{keywords}
+use Rattle.token.specs.Search.{bySlot, rowIn}
+use Rattle.words.specs.Word.{isLetter}
+use Rattle.lexer.specs.declared.lexed.Lexed.{Lexed}
+use Rattle.lexer.specs.Lex.{lexToken}
+use Rattle.lexer.specs.Placed.{placed, said}
+use Rattle.scanner.specs.declared.answer.Token.{Token}
+use Rattle.batch.specs.declared.next.Next.{Next}
+use Rattle.batch.specs.Layout.{tokenNumbers}
+use Rattle.scanner.specs.Steps.{isPlain, tokenBy}
+
+-- the first bytes of operators, but for a slash, which may start a comment
+unfoldable pub startsOperator : ℕ → Bool
+startsOperator b = among b (spelled "!%&*+-:<=>^|")
+
+-- what a first byte tells
+unfoldable pub firstKind : ℕ → ℕ
+firstKind b =
+    cond (isLetter b) IDENT
+    (cond (startsOperator b) ADD
+    (cond (eqb b 40) LPAREN
+    (cond (eqb b 41) RPAREN
+    (cond (eqb b 44) COMMA
+    (cond (eqb b 46) PERIOD
+    (cond (eqb b 59) SEMICOLON
+    (cond (eqb b 91) LBRACK
+    (cond (eqb b 93) RBRACK
+    (cond (eqb b 123) LBRACE
+    (cond (eqb b 125) RBRACE
+    (cond (eqb b 34) STRING (cond (isDecimal b) INT ILLEGAL))))))))))))
+
+-- the table of what each first byte tells
+abbrev pub IsTable : List ℕ → Type 0
+IsTable kinds = (length kinds ≡ 256) × ((b : ℕ) → b < 256 → getD kinds b 0 ≡ firstKind b)
+
+-- the tables of the keywords of at most eight bytes: their numbers and their kinds, each in its slot
+abbrev pub IsKeywords : List ℕ → List ℕ → Type 0
+IsKeywords numbers kinds = (numbers ≡ bySlot (λ slot. rowIn slot keywords .1)) × (kinds ≡ bySlot (λ slot. rowIn slot keywords .0))
+
+-- a token without a value; its text is the source's bytes from its start to an end
+abbrev pub simpleToken : ℕ → Bool → ℕ → ℕ → ℕ → Token
+simpleToken kind inserted position start end =
+    record {
+      kind = kind;
+      inserted = inserted;
+      position = position;
+      code = 0;
+      text = record { area = false; start = start; end = end };
+      value = record { area = false; start = start; end = start };
+    }
+
+-- a string from a place to its closing quote; its value is the source's bytes between the quotes
+abbrev pub stringToken : ℕ → ℕ → ℕ → Token
+stringToken position start close =
+    record {
+      kind = STRING;
+      inserted = false;
+      position = position;
+      code = 0;
+      text = record { area = false; start = start; end = close + 1 };
+      value = record { area = false; start = start + 1; end = close };
+    }
+
+-- a word of a kind, from a place to another
+abbrev pub wordOf : ℕ → ℕ → ℕ → ℕ → Token
+wordOf kind position at end = simpleToken kind false position at (cond (eqb kind IDENT) end at)
+
+-- what was given is what the lexer says of the token at a place, whatever the mark is: a plain token of ASCII characters, no line feed
+-- among them, that ends at most sixteen bytes behind the safe place
+pub record Gave (src : List ℕ) (at safe position : ℕ) (tokens : List ℕ) (to : ℕ) (r : Next) (tokens′ : List ℕ) : Type 0 where
+  pub x : Lexed
+  pub reads : (mark : Bool) → said src at x ≡ placed src at (lexToken mark (chars (drop at src)))
+  pub plain : isPlain x ≡ true
+  pub ascii : x .chars ≡ x .end - at
+  pub feeds : x .lfs ≡ 0
+  pub known : eqb (x .kind) EOF ≡ false
+  pub near : x .end < safe + 16
+  pub place : r .place ≡ x .end
+  pub mark : r .mark ≡ x .mark
+  pub written : tokens′ ≡ sets tokens to (tokenNumbers (tokenBy x at position))
+
+-- where none is found, nothing is written
+abbrev pub Gives : List ℕ → ℕ → ℕ → ℕ → List ℕ → ℕ → Next → List ℕ → Type 0
+Gives src at safe position tokens to r tokens′ =
+    (r .found ≡ false → tokens′ ≡ tokens) × (r .found ≡ true → Gave src at safe position tokens to r tokens′)
