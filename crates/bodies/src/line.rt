@@ -1,8 +1,10 @@
 // Whether a general comment ends its line.
 ghost use mathlib.Core.Path.{_≡_};
 ghost use mathlib.Core.Bool.{false};
-ghost use lib.ListN.{drop};
+ghost use Prim.Native.Nat.{_<_};
+ghost use lib.ListN.{length, drop};
 ghost use Rattle.utf8.specs.Chars.{chars};
+ghost use Rattle.reader.specs.Read.{readPlace};
 ghost use Rattle.bodies.specs.Line.{blankToEnd, stopFrom, endsLine};
 
 // Where and how the search for a comment's end stopped: closed before a place, or at the end of its line or of the source.
@@ -29,6 +31,17 @@ fn blank_to_end(src: &[u8], at: usize) -> bool
     true
 }
 
+// The place after the character at a place. Most are ASCII: for those no reader is made.
+fn next_place(src: &[u8], at: usize) -> usize
+    requires { ⌜ at < length (now src) ⌝ }
+    ensures { λ r. ⌜ r ≡ readPlace (now (src .entry)) at ⌝ }
+{
+    if src[at] < 128 {
+        return at + 1;
+    }
+    reader::place_after(src, at)
+}
+
 // Searches the end of a general comment, from after its opening, within its line.
 fn comment_end(src: &[u8], at: usize) -> Stop
     ensures { λ r. ⌜ r ≡ stopFrom at false (chars (drop at (now (src .entry)))) ⌝ }
@@ -43,7 +56,7 @@ fn comment_end(src: &[u8], at: usize) -> Stop
         if b == 10 {
             break Stop::End { lf: true };
         }
-        p = reader::place_after(src, p);
+        p = next_place(src, p);
         if star & (b == 47) {
             break Stop::Closed(p);
         }

@@ -1,23 +1,21 @@
 -- Laws of numbers at a place of a text: each rule by the byte there and the run that was read.
-use Prim.Native.Nat.{ℕ, zero, suc, _+_, _≤_, _<_}
-use mathlib.Core.Path.{_≡_, refl, sym, ap, _∙_}
-use mathlib.Core.Bool.{Bool, true, false, cond, _&&_, _||_}
+use Prim.Native.Nat.{ℕ, zero, _+_, _≤_, _<_}
+use mathlib.Core.Path.{_≡_, sym, ap, _∙_}
+use mathlib.Core.Bool.{true, false, _&&_, _||_}
 use mathlib.Core.List.{List}
 use native.Mathlib.Omega.{arith}
 use native.Mathlib.Nat.{add-zero, add-assoc}
 use lib.Dec.{leb, eqb, lit<, lit≤}
 use lib.ListN.{getD, drop}
 use lib.Seq.{drop-drop}
-use borrow.Author.Tests.{eq-eqb, ne-eqb, lt-leb}
-use Rattle.basics.specs.Between.{between}
+use borrow.Author.Tests.{eq-eqb, ne-eqb}
 use Rattle.basics.proofs.Choice.{above-it}
 use Rattle.utf8.specs.Chars.{chars, peek}
 use Rattle.utf8.proofs.Places.{code-next, test-next}
-use Rattle.token.specs.Kinds.{ILLEGAL, INT, FLOAT, IMAG}
+use Rattle.token.specs.Kinds.{ILLEGAL, INT, FLOAT}
 use Rattle.digits.specs.Digit.{isDecimal}
-use Rattle.numbers.specs.declared.Number.{Number}
 use Rattle.numbers.specs.declared.Spelling.{Spelling}
-use Rattle.numbers.specs.declared.Spelling.the-variants.{AsRead, LowerPrefix, OctalPrefix, LowerExponent}
+use Rattle.numbers.specs.declared.Spelling.the-variants.{AsRead, OctalPrefix, LowerExponent}
 use Rattle.numbers.specs.Run.{Run, digitRun, strictRun}
 use Rattle.numbers.specs.Number.{Reading, after, exponentDigits, exponent, finish, fraction, decimalRest, decimal, prefixedDigits, prefixed, bareZero, zeroBy, leadingZero, withoutI, numberAt}
 use Rattle.numbers.proofs.Runs.{run-place, strict-place, next-place}

@@ -12,7 +12,6 @@ use Rattle.position.specs.Lines.{StrictlyRising}
 use Rattle.errors.specs.Errors.{roomOf}
 use Rattle.lexer.specs.Lex.{lex}
 use Rattle.lexer.specs.Placed.{placed}
-use Rattle.reading.specs.Reading.{Reading}
 use Rattle.reading.specs.Run.{scanned, next}
 use Rattle.scanner.specs.Scan.{view, startOf, toArea}
 use Rattle.runs.specs.Calls.{Held, call, Seen, play, tokens, linesIn}

@@ -25,16 +25,16 @@ loop-holds c = refl
 shared-slice-read-b : tie.Need-shared-slice-read-b Inv-loop μ-loop
 shared-slice-read-b c = search needs
 
-place-after-requires : tie.Need-place-after-requires Inv-loop μ-loop
-place-after-requires c κs = tt
+next-place-requires : tie.Need-next-place-requires Inv-loop μ-loop
+next-place-requires c κs = search needs
 
 -- a character takes a byte or more
-further : (c : tie.After-place-after Inv-loop μ-loop) → c .before .before .before .before .loop .p < c .place-after .result
+further : (c : tie.After-next-place Inv-loop μ-loop) → c .before .before .before .before .loop .p < c .next-place .result
 unfolding readPlace
 further c =
     let s = c .before .before .before .before .before .before .args .src .now in
     let p = c .before .before .before .before .loop .p in
-    omega (arith, c .place-after .ensures, there-least s p (charAt s p) (c .before .before .before .if1 .left) refl)
+    omega (arith, c .next-place .ensures, there-least s p (charAt s p) (c .before .before .before .if1 .left) refl)
 
 loop-less : tie.Need-loop-less Inv-loop μ-loop
 loop-less c = omega (arith, further (c .before))
@@ -45,7 +45,7 @@ loop-again c =
     let l = c .before .before .before .before .before in
     let s = l .before .before .args .src .now in
     let p = l .loop .p in
-    l .loop .inv ∙ rw (c .before .place-after .ensures) (stop-next s p (l .loop .star) (c .before .before .before .before .if1 .left) (c .before .before .if2 .left) (charAt s p) refl (c .if3 .left))
+    l .loop .inv ∙ rw (c .before .next-place .ensures) (stop-next s p (l .loop .star) (c .before .before .before .before .if1 .left) (c .before .before .if2 .left) (charAt s p) refl (c .if3 .left))
 
 returns : tie.Need-returns Inv-loop μ-loop
 returns c = sym (c .before .loop .inv ∙ stop-end _ _ _ (c .if1 .taken))
@@ -59,7 +59,7 @@ returns-3 c =
     let l = c .before .before .before .before .before in
     let s = l .before .before .args .src .now in
     let p = l .loop .p in
-    sym (l .loop .inv ∙ rw (c .before .place-after .ensures) (stop-closed s p (l .loop .star) (c .before .before .before .before .if1 .left) (c .before .before .if2 .left) (charAt s p) refl (c .if3 .taken)))
+    sym (l .loop .inv ∙ rw (c .before .next-place .ensures) (stop-closed s p (l .loop .star) (c .before .before .before .before .if1 .left) (c .before .before .if2 .left) (charAt s p) refl (c .if3 .taken)))
 
 pub comment-end-spec : {M : Type 1} → statement M
 comment-end-spec =
@@ -69,7 +69,7 @@ comment-end-spec =
     μ-loop
     loop-holds
     shared-slice-read-b
-    place-after-requires
+    next-place-requires
     loop-less
     loop-again
     returns
