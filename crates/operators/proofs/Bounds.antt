@@ -13,7 +13,7 @@ use Rattle.utf8.proofs.Ends.{Ends, ends-tail, ends-some}
 use Rattle.token.specs.Kinds.{ILLEGAL}
 use Rattle.token.specs.Table.{Row, operators}
 use Rattle.operators.specs.declared.Operator.{Operator}
-use Rattle.operators.specs.Longest.{begins, longer, longest, operatorOf}
+use Rattle.operators.specs.Longest.{begins, longest, operatorOf}
 
 -- ---- no longer than the text
 begins-bound : (xs : List ℕ) (r : List Char) → begins xs r ≡ true → length xs ≤ length r

@@ -12,7 +12,7 @@ use lib.ListN.{length, getD, take, drop, length-append, length-drop, length-take
 use borrow.Author.Tests.{ne-eqb}
 use Rattle.basics.proofs.Choice.{either}
 use Rattle.utf8.specs.declared.Char.{Char}
-use Rattle.utf8.specs.Chars.{stray, octets, encode, firstChar, charAt, chars, isStray, widths}
+use Rattle.utf8.specs.Chars.{octets, encode, firstChar, charAt, chars, isStray, widths}
 use Rattle.utf8.proofs.First.{ascii, charAt-in, charAt-ascii, chars-end, chars-ascii, chars-le, first-fits, there-chars}
 use Rattle.utf8.proofs.Append.{first-stray}
 use Rattle.utf8.proofs.Encoding.{first-coded}

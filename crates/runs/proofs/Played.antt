@@ -1,14 +1,14 @@
 -- A list of calls with buffers is the run with no bound: the calls that give a token are its scans, and a refused one changes nothing.
 use Prim.Native.Nat.{ℕ, zero, suc, _+_, _*_, _≤_, _<_}
 use mathlib.Core.Path.{_≡_, refl, sym, ap, _∙_, subst}
-use mathlib.Core.Bool.{Bool, true, false, cond, not}
+use mathlib.Core.Bool.{Bool, true, false, cond}
 use mathlib.Core.List.{List, [], _∷_, _++_, append-nil}
 use mathlib.Core.Logic.{_⊎_, inl, inr}
 use native.Mathlib.Omega.{arith}
-use lib.Dec.{eqb, ltb}
+use lib.Dec.{eqb}
 use lib.ListN.{length, drop, length-append, length-drop}
 use lib.Seq.{sets, take-append-seam}
-use borrow.Author.Tests.{ltb-false, ne-eqb}
+use borrow.Author.Tests.{ne-eqb}
 use Rattle.utf8.specs.Chars.{chars}
 use Rattle.utf8.proofs.Places.{place-chars, place-fits}
 use Rattle.token.specs.Kinds.{STRING}
@@ -30,22 +30,10 @@ use Rattle.state.specs.declared.state.State.{State}
 use Rattle.state.specs.Fits.{fits}
 use Rattle.scanner.specs.Scan.{view, startOf, toArea, tokenOf, refusalOf, After, gaveBy, unless, scanBy, scanOf}
 use Rattle.scanner.proofs.Scans.{Held as Fitting, held}
+use Rattle.scanner.proofs.Fitting.{passes}
 use Rattle.runs.specs.Calls.{Held, call, left, Seen, seenIn, given, play, tokens}
 use Rattle.runs.proofs.Seen.{seenOf, firsts, viewOf, seenAt}
 use Rattle.runs.proofs.Shown.{text-shown, value-shown}
-
--- ---- what a call that is not refused has: a state that fits, and room for the errors
-not-refused : (fit size table list area : Bool) → _≡_ {A = ℕ} (cond (not fit) 6 (cond size 3 (cond table 7 (cond list 8 (cond area 9 0))))) 0 → (fit ≡ true) × (list ≡ false)
-not-refused false size table list area e = absurd (omega arith)
-not-refused true true table list area e = absurd (omega arith)
-not-refused true false true list area e = absurd (omega arith)
-not-refused true false false true area e = absurd (omega arith)
-not-refused true false false false area e = (refl, refl)
-
-passes : (fit : Bool) (size : ℕ) (u : Reading) (table list toWrite area : ℕ) → refusalOf fit size u table list toWrite area ≡ 0 → (fit ≡ true) × (length (u .errors) ≤ list)
-passes fit size u table list toWrite area e =
-    let q = not-refused fit (ltb size (u .offset)) (ltb table (length (u .lines))) (ltb list (length (u .errors))) (ltb area toWrite) e in
-    (q .0, ltb-false list (length (u .errors)) (q .1))
 
 -- ---- the errors that it leaves: those that were there, and the lexeme's if it has one
 errors-left : (t : Bool) (n : ℕ) (list : List ℕ) (e : Error) → length (errorsOf n list ++ cond t [] (e ∷ [])) ≤ roomOf list
@@ -131,7 +119,7 @@ module _ (src area : List ℕ) (h : Held) where
       go zero e =
           let q = passes (fits s src (h .table) (h .list)) (s .size) u (length (h .table)) (roomOf (h .list)) (length (toArea p)) (length area) e in
           let k = held s src (h .table) (h .list) (q .0) in
-          inr (view-left (q .1), ap (λ (t : Seen). t ∷ []) (seen-left k), refl, refl)
+          inr (view-left (q .3), ap (λ (t : Seen). t ∷ []) (seen-left k), refl, refl)
       go (suc n) e = inl (refl, rw (ne-eqb (suc n) 0 (λ z. omega arith)))
 
 -- ---- the first k of a sequence

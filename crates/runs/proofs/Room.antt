@@ -1,38 +1,28 @@
 -- Behind an accepted opening a scan is refused for want of room alone: by 7, 8 or 9, never by 6 or 3.
-use Prim.Native.Nat.{ℕ, zero, suc, _+_, _-_, _*_, _/_, _≤_}
-use mathlib.Core.Path.{_≡_, refl, sym, ap, _∙_}
-use mathlib.Core.Bool.{Bool, true, false, cond}
+use Prim.Native.Nat.{ℕ, zero, suc, _+_, _≤_}
+use mathlib.Core.Path.{_≡_, refl, _∙_}
+use mathlib.Core.Bool.{true}
 use mathlib.Core.List.{List, [], _∷_}
 use native.Mathlib.Omega.{arith}
-use lib.Dec.{eqb, ltb}
-use lib.ListN.{length, take, drop, length-append, length-drop, List·getD-append}
-use lib.Seq.{sets, length-sets, length-take-le}
-use borrow.Author.Tests.{leb-true, le-leb, le-ltb, ltb-false}
-use Rattle.basics.proofs.Choice.{cond-ind}
-use Rattle.utf8.specs.declared.Char.{Char}
-use Rattle.utf8.specs.Chars.{chars, widths}
-use Rattle.utf8.proofs.Places.{place-chars, place-fits}
-use Rattle.position.specs.Lines.{lineStart}
+use lib.ListN.{length, drop, length-drop}
+use borrow.Author.Tests.{leb-true, le-ltb}
+use Rattle.utf8.specs.Chars.{chars}
+use Rattle.utf8.proofs.Places.{place-chars}
 use Rattle.position.specs.Place.{placed as among}
-use Rattle.position.proofs.Lines.{FromZero, from-zero-append}
-use Rattle.position.proofs.Place.{Fit as FileFit, fit, fit-true, from-zero, last-start}
-use Rattle.errors.specs.Layout.{width, numbers}
+use Rattle.position.proofs.Place.{Fit as FileFit, fit-true}
 use Rattle.errors.specs.Errors.{roomOf}
-use Rattle.bodies.specs.Body.{count}
-use Rattle.bodies.proofs.Counts.{count-fits}
-use Rattle.lines.proofs.Kept.{read-last}
 use Rattle.lexer.specs.Lexeme.{Lexeme, taken}
 use Rattle.lexer.specs.Lex.{lex}
 use Rattle.lexer.specs.Placed.{Placed, placed}
 use Rattle.lexer.proofs.Laws.{lex-laws}
-use Rattle.reading.specs.Reading.{Reading, errorAt, after}
+use Rattle.reading.specs.Reading.{Reading, after}
 use Rattle.reading.specs.Run.{scanned, next}
-use Rattle.reading.proofs.Step.{after-from-zero}
 use Rattle.state.specs.declared.state.State.{State}
 use Rattle.state.specs.Fits.{fileOf, fits}
 use Rattle.state.specs.Opening.{fresh}
 use Rattle.scanner.specs.Scan.{view, written, startOf, toArea, tokenOf, refusalOf, After, withError, stateOf, gaveBy, unless, scanBy, scanOf}
 use Rattle.scanner.proofs.Scans.{Held as Holds}
+use Rattle.scanner.proofs.Fitting.{fits-held, held-after, passes}
 use Rattle.runs.specs.Calls.{Held, Accepted, call, left, play}
 use Rattle.runs.specs.Progress.{wants}
 use Rattle.runs.proofs.Seen.{viewOf}
@@ -44,20 +34,7 @@ pub record Fit (src : List ℕ) (h : Held) : Type 0 where
   pub rest : h .state .offset + length (chars (drop (h .state .place) src)) ≤ h .state .size
 
 pub fit-fits : (src : List ℕ) (h : Held) → Fit src h → fits (h .state) src (h .table) (h .list) ≡ true
-fit-fits src h f =
-    let k = f .holds in
-    let g = fit (fileOf (h .state)) (h .table) (k .fitted) in
-    let top : among (fileOf (h .state)) ≡ true = unfold among in le-leb _ _ (g .top) in
-    rw (
-      le-leb _ _ (k .offset),
-      le-leb (h .state .offset) (h .state .size) (omega (arith, f .rest)),
-      le-leb _ _ (g .some),
-      top,
-      k .fitted,
-      le-leb _ _ (k .last),
-      le-leb _ _ (k .place),
-      le-leb _ _ (k .errors),
-    )
+fit-fits src h f = fits-held (h .state) src (h .table) (h .list) (f .holds) (omega (arith, f .rest))
 
 -- ---- an accepted opening
 pub fit-accepted : {src : List ℕ} {base size : ℕ} {h : Held} → Accepted src base size h → Fit src h
@@ -79,20 +56,6 @@ fit-accepted {src} {base} {size} {h} a =
     }
 
 -- ---- a lexeme
--- every character is counted by a test that always holds
-counted : (cs : List Char) → count (λ c. true) cs ≡ length cs
-counted [] = refl
-counted (c ∷ cs) = omega (arith, counted cs)
-
-room-with : (number n : ℕ) (list : List ℕ) (u : Reading) → roomOf (withError number n list u) ≡ roomOf list
-room-with number n list u =
-    cond-ind (λ l. roomOf l ≡ roomOf list) (eqb number 0) list (sets list (n * width) (numbers (errorAt number (u .offset) (u .lines))))
-    (λ _. refl)
-    (λ _. ap (λ k. k / width) (length-sets list (n * width) (numbers (errorAt number (u .offset) (u .lines)))))
-
-last-written : (starts table : List ℕ) → 1 ≤ length starts → lineStart (written starts table) (length starts) ≡ lineStart starts (length starts)
-last-written starts table h = List·getD-append starts (drop (length starts) table) 0 (length starts - 1) (omega arith)
-
 -- what it leaves fits, where the buffers have room for it
 module _ (src : List ℕ) (h : Held) (f : Fit src h) (y : Lexeme) (bound : taken y ≤ length (viewOf src h .rest)) where
   abbrev v : Reading
@@ -102,46 +65,11 @@ module _ (src : List ℕ) (h : Held) (f : Fit src h) (y : Lexeme) (bound : taken
       → Fit src (record { state = stateOf (h .state) v; table = written (v .lines) (h .table); list = withError (y .error) (h .state .errors) (h .list) v })
   unfolding after view
   fit-after inTable inList =
+      let s = h .state in
       record {
-        holds =
-            record {
-              fitted = fit-true _ _ (record {
-                top = g .top;
-                some = zero′ .some;
-                held = omega (arith, length-append (v .lines) (drop (length (v .lines)) (h .table)));
-                first = from-zero-append (v .lines) (drop (length (v .lines)) (h .table)) zero′ .first;
-              });
-              offset = omega (arith, k .offset, wide, counted cs, taken-is);
-              last = rw (last-written (v .lines) (h .table) (zero′ .some)) (omega (arith, last, taken-is));
-              place = place-fits (taken y) src (s .place) (k .place);
-              errors = rw (room-with (y .error) (s .errors) (h .list) v) inList;
-            };
+        holds = held-after src s (h .table) (h .list) (f .holds) y bound inTable inList;
         rest = rw (place-chars (taken y) src (s .place)) (omega (arith, length-drop (taken y) (chars (drop (s .place) src)), bound, f .rest));
       }
-    where
-      s : State
-      s = h .state
-
-      k : Holds s src (h .table) (h .list)
-      k = f .holds
-
-      g : FileFit (fileOf s) (h .table)
-      g = fit (fileOf s) (h .table) (k .fitted)
-
-      cs : List Char
-      cs = take (taken y) (chars (drop (s .place) src))
-
-      taken-is : length cs ≡ taken y
-      taken-is = length-take-le (taken y) (chars (drop (s .place) src)) bound
-
-      zero′ : FromZero (v .lines)
-      zero′ = after-from-zero (s .size) y (viewOf src h) (from-zero (fileOf s) (h .table) g)
-
-      wide : count (λ c. true) cs ≤ widths cs
-      wide = count-fits (λ c. true) (taken y) src (s .place)
-
-      last : lineStart (v .lines) (length (v .lines)) ≤ s .offset + length cs
-      last = read-last (s .size) (s .offset) cs (take (s .lines) (h .table)) (rw (last-start (fileOf s) (h .table) g) (k .last))
 
 -- ---- a call
 -- what a call leaves is what it was lent, or what its lexeme leaves
@@ -152,12 +80,6 @@ left-cases P (suc n) a h area f g = f
 unless-refusal : (n : ℕ) (a : After) (h : Held) (area : List ℕ) → a .answer .refusal ≡ 0 → unless n a (h .state) (h .table) (h .list) area .answer .refusal ≡ n
 unless-refusal zero a h area e = e
 unless-refusal (suc n) a h area e = refl
-
--- one that wants nothing has room for the line starts and the errors
-roomy : (table list area : Bool) → _≡_ {A = ℕ} (cond table 7 (cond list 8 (cond area 9 0))) 0 → (table ≡ false) × (list ≡ false)
-roomy true list area e = absurd (omega arith)
-roomy false true area e = absurd (omega arith)
-roomy false false area e = (refl, refl)
 
 module _ (src : List ℕ) (h : Held) (f : Fit src h) where
   abbrev s : State
@@ -202,8 +124,8 @@ module _ (src : List ℕ) (h : Held) (f : Fit src h) where
     unfolding call scanOf scanBy next scanned placed
     fit-call =
         left-cases (Fit src) refusal gives h area f (λ z.
-        let q = roomy (ltb (length (h .table)) (length (u .lines))) (ltb (roomOf (h .list)) (length (u .errors))) (ltb (length area) (length (toArea p))) (sym refusal-is ∙ z) in
-        fit-after src h f x bound (ltb-false _ _ (q .0)) (ltb-false _ _ (q .1)))
+        let q = passes (fits s src (h .table) (h .list)) (s .size) u (length (h .table)) (roomOf (h .list)) (length (toArea p)) (length area) z in
+        fit-after src h f x bound (q .2) (q .3))
 
 -- ---- calls
 pub fit-play : (src : List ℕ) (areas : List (List ℕ)) (h : Held) → Fit src h → Fit src (play src areas h)

@@ -1,7 +1,7 @@
 -- Behind a scan that is not refused the state fits again: the source, and the buffers as they were left.
 use Prim.Native.Nat.{ℕ, zero, suc, _+_, _-_, _*_, _/_, _≤_}
 use mathlib.Core.Path.{_≡_, refl, ap}
-use mathlib.Core.Bool.{Bool, true, false, cond}
+use mathlib.Core.Bool.{Bool, true, false, cond, not}
 use mathlib.Core.List.{List, [], _∷_}
 use native.Mathlib.Omega.{arith}
 use lib.Dec.{eqb, ltb}
@@ -109,12 +109,20 @@ given : (P : After → Type 0) (n : ℕ) (a : After) (s : State) (table list are
 given P zero a s table list area e f = f refl
 given P (suc n) a s table list area e f = absurd (omega arith)
 
--- and was within the size, and had room for the line starts and the errors
-roomy : (size table list area : Bool) → _≡_ {A = ℕ} (cond size 3 (cond table 7 (cond list 8 (cond area 9 0)))) 0 → (size ≡ false) × (table ≡ false) × (list ≡ false)
-roomy true table list area e = absurd (omega arith)
-roomy false true list area e = absurd (omega arith)
-roomy false false true area e = absurd (omega arith)
-roomy false false false area e = (refl, refl, refl)
+-- and has a state that fits, stays within the size, and has room for the line starts and the errors
+not-refused : (fit size table list area : Bool) → _≡_ {A = ℕ} (cond (not fit) 6 (cond size 3 (cond table 7 (cond list 8 (cond area 9 0))))) 0
+    → (fit ≡ true) × (size ≡ false) × (table ≡ false) × (list ≡ false)
+not-refused false size table list area e = absurd (omega arith)
+not-refused true true table list area e = absurd (omega arith)
+not-refused true false true list area e = absurd (omega arith)
+not-refused true false false true area e = absurd (omega arith)
+not-refused true false false false area e = (refl, refl, refl, refl)
+
+pub passes : (fit : Bool) (size : ℕ) (u : Reading) (table list toWrite area : ℕ) → refusalOf fit size u table list toWrite area ≡ 0
+    → (fit ≡ true) × (u .offset ≤ size) × (length (u .lines) ≤ table) × (length (u .errors) ≤ list)
+passes fit size u table list toWrite area e =
+    let q = not-refused fit (ltb size (u .offset)) (ltb table (length (u .lines))) (ltb list (length (u .errors))) (ltb area toWrite) e in
+    (q .0, ltb-false _ _ (q .1), ltb-false _ _ (q .2), ltb-false _ _ (q .3))
 
 module _ (src : List ℕ) (s : State) (table list area : List ℕ) (holds : fits s src table list ≡ true) where
   -- how far the source has been read, what is read there and how it stands in the source, and how far the source is read then
@@ -135,10 +143,10 @@ module _ (src : List ℕ) (s : State) (table list area : List ℕ) (holds : fits
 
   gives-fits : refusal ≡ 0 → fits (stateOf s u) src (written (u .lines) table) (withError (x .error) (s .errors) list u) ≡ true
   gives-fits z =
-      let q = roomy (ltb (s .size) (u .offset)) (ltb (length table) (length (u .lines))) (ltb (roomOf list) (length (u .errors))) (ltb (length area) (length (toArea p))) (rw holds at z) in
+      let q = passes (fits s src table list) (s .size) u (length table) (roomOf list) (length (toArea p)) (length area) z in
       fits-held (stateOf s u) src (written (u .lines) table) (withError (x .error) (s .errors) list u)
-      (held-after src s table list (held s src table list holds) x (lex-laws .bound _ _) (ltb-false _ _ (q .1)) (ltb-false _ _ (q .2)))
-      (ltb-false _ _ (q .0))
+      (held-after src s table list (held s src table list holds) x (lex-laws .bound _ _) (q .2) (q .3))
+      (q .1)
 
   -- what the scan leaves is taken by the next
   pub fits-after : scanOf src s table list area .answer .refusal ≡ 0

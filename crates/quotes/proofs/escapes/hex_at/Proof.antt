@@ -1,5 +1,4 @@
 -- `quotes::escapes::hex_at` meets its contract: by the number of digits, and by whether they give a byte.
-use Prim.Native.Nat.{_≤_}
 use native.Mathlib.Omega.{arith}
 use native.Mathlib.Numerals.{add-one}
 use lib.Dec.{lit≤}
