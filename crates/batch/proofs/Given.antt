@@ -3,7 +3,7 @@ use Prim.Native.Nat.{ℕ, suc, _+_, _-_, _*_, _/_, _≤_, _<_}
 use mathlib.Core.Path.{_≡_, sym, _∙_}
 use mathlib.Core.Bool.{true, false}
 use mathlib.Core.List.{List}
-use native.Mathlib.Nat.{add-zero, zero-add, sub-zero}
+use native.Mathlib.Nat.{add-zero, sub-zero}
 use native.Mathlib.Omega.{arith}
 use lib.ListN.{length}
 use lib.Seq.{sets}
@@ -15,11 +15,6 @@ use Rattle.scanner.specs.Scan.{After, refusedBy, scanOf}
 use Rattle.batch.specs.Layout.{tokenWidth, tokenNumbers}
 use Rattle.batch.specs.Many.{Run, isLast, before, manyOf, tokensNumbers, leftBy, leftAfter}
 use Rattle.scanner.proofs.Scans.{scan-unfit}
-
--- behind none, they stand at the front
-left-first : (tokens : List ℕ) (r : Run) → leftBy tokens r ≡ leftAfter 0 tokens r
-unfolding leftBy
-left-first tokens r = rw zero-add
 
 -- one token before the others is one more that they stand behind
 left-next : (n : ℕ) (tokens : List ℕ) (t : Token) (r : Run) → leftAfter n tokens (before t r) ≡ leftAfter (n + 1) (sets tokens (n * tokenWidth) (tokenNumbers t)) r
@@ -83,7 +78,8 @@ module _ (room n : ℕ) (src : List ℕ) (s : State) (table list area tokens : L
 module _ (room : ℕ) (src : List ℕ) (s : State) (table list area tokens : List ℕ) where
   -- all scans are left
   pub left-start : leftBy tokens (manyOf room src s table list area) ≡ leftAfter 0 tokens (manyOf (room - 0) src s table list area)
-  left-start = rw sub-zero (left-first tokens (manyOf room src s table list area))
+  unfolding leftBy
+  left-start = rw sub-zero
 
   pub no-room : room ≡ 0 → leftBy tokens (manyOf room src s table list area) ≡ record { refusal = 0; state = s; table = table; list = list; area = area; tokens = tokens; count = 0 }
   no-room z = left-start ∙ left-none room 0 src s table list area tokens (omega arith)

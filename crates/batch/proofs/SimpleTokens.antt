@@ -3,29 +3,29 @@ use Prim.Native.Nat.{ℕ, _+_, _≤_, _<_}
 use mathlib.Core.Path.{_≡_, refl, sym, ap, subst, _∙_}
 use mathlib.Core.Bool.{Bool, true, false, cond, not, _||_, _&&_, true≢false, false≢true}
 use mathlib.Core.List.{List, [], _∷_}
-use mathlib.Core.Logic.{_≢_, _⊎_, inl, inr, ⊎-elim}
+use mathlib.Core.Logic.{_≢_, ⊎-elim}
 use native.Mathlib.Omega.{arith}
 use native.Mathlib.Decide.{decLt}
-use lib.Dec.{T, eqb, leb, ltb}
+use lib.Dec.{T, eqb, ltb}
 use lib.ListN.{length, getD, drop}
-use borrow.Author.Tests.{ne-eqb, eqb-true, ltb-true, leb-true, leb-false, eq-eqb, not-true}
-use Rattle.basics.specs.Between.{between}
+use borrow.Author.Tests.{ne-eqb, eqb-true, ltb-true, eq-eqb, not-true}
 use Rattle.basics.specs.Same.{same}
 use Rattle.basics.specs.Spelling.{spelled}
-use Rattle.basics.proofs.Choice.{either, cond-ind, and-left, and-right, between-true, below-it, above-it, true-of}
+use Rattle.basics.proofs.Choice.{either, and-left, and-right, between-true, below-it, above-it, true-of}
 use Rattle.basics.proofs.Every.{below, every-below}
-use Rattle.basics.proofs.Lists.{reach, same-true}
+use Rattle.basics.proofs.Lists.{reach}
 use Rattle.utf8.specs.declared.Char.{Char}
 use Rattle.utf8.specs.Chars.{chars}
 use Rattle.digits.specs.Digit.{isDecimal}
 use Rattle.token.specs.Kinds.{ILLEGAL, EOF, IDENT, INT, STRING, ADD, LPAREN, LBRACK, LBRACE, COMMA, PERIOD, RPAREN, RBRACK, RBRACE, SEMICOLON, COLON, BREAK, VAR}
-use Rattle.token.specs.Table.{Row, operators, identToken}
+use Rattle.token.specs.Table.{operators, identToken}
 use Rattle.token.specs.Precedence.{among as isOneOf}
 use Rattle.token.proofs.Ranges.{value-within}
 use Rattle.token.proofs.Words.{word-kind}
 use Rattle.words.specs.Word.{isLetter}
 use Rattle.operators.specs.declared.Operator.{Operator}
-use Rattle.operators.specs.Longest.{begins, op, longest, operatorOf}
+use Rattle.operators.specs.Longest.{begins, op, operatorOf}
+use Rattle.operators.proofs.Bounds.{spells, operator-proper, operator-least}
 use Rattle.operators.proofs.Leading.{among}
 use Rattle.operators.proofs.Rows.{row, one-is, period-is}
 use Rattle.lexer.specs.declared.lexed.Text.the-variants.{Empty}
@@ -135,58 +135,6 @@ one-ind P [] none b t = absurd (false≢true t)
 one-ind P (k ∷ ks) (also here more) b t =
     ⊎-elim (λ (e : eqb b k ≡ true). subst P (sym (eqb-true b k e)) here) (λ (e : eqb b k ≡ false). one-ind P ks more b (rw e at t)) (either (eqb b k))
 
--- a row has this spelling
-abbrev spells : List ℕ → List Row → Bool
-spells xs [] = false
-spells xs (row ∷ rows) = same xs (row .name) || spells xs rows
-
--- the longest is no shorter than a spelling that the characters begin with
-longest-least : (xs : List ℕ) (rows : List Row) (r : List Char) → begins xs r ≡ true → spells xs rows ≡ true → length xs ≤ longest rows r .len
-unfolding longest
-longest-least xs [] r b t = absurd (false≢true t)
-longest-least xs (row ∷ rows) r b t =
-    let P : Operator → Type 0 = λ x. length xs ≤ x .len in
-    let rest = longest rows r in
-    ⊎-elim
-    (λ (e : same xs (row .name) ≡ true).
-    rw (← same-true xs (row .name) e, b)
-    (cond-ind P (leb (rest .len) (length xs)) _ _ (λ _. omega arith) (λ l. omega (arith, leb-false (rest .len) (length xs) l))))
-    (λ (e : same xs (row .name) ≡ false).
-    let ih = longest-least xs rows r b (rw e at t) in
-    cond-ind P (begins (row .name) r) _ _
-    (λ _. cond-ind P (leb (rest .len) (length (row .name))) _ _ (λ l. omega (arith, ih, leb-true (rest .len) (length (row .name)) l)) (λ _. ih)) (λ _. ih))
-    (either (same xs (row .name)))
-
--- the kinds of the rows are from ADD to COLON
-abbrev allProper : List Row → Bool
-allProper [] = true
-allProper (row ∷ rows) = between ADD (row .kind) COLON && allProper rows
-
-longest-proper : (rows : List Row) (r : List Char) → T (allProper rows) → (longest rows r .len ≡ 0) ⊎ (between ADD (longest rows r .kind) COLON ≡ true)
-unfolding longest
-longest-proper [] r t = inl refl
-longest-proper (row ∷ rows) r t =
-    let P : Operator → Type 0 = λ x. (x .len ≡ 0) ⊎ (between ADD (x .kind) COLON ≡ true) in
-    let here = true-of _ (and-left (between ADD (row .kind) COLON) (allProper rows) t) in
-    let rest = longest-proper rows r (and-right (between ADD (row .kind) COLON) (allProper rows) t) in
-    cond-ind P (begins (row .name) r) _ _
-    (λ _. cond-ind P (leb (longest rows r .len) (length (row .name))) _ _ (λ _. inr here) (λ _. rest)) (λ _. rest)
-
--- no row is of more than three characters
-abbrev allShort : List Row → Bool
-allShort [] = true
-allShort (row ∷ rows) = leb (length (row .name)) 3 && allShort rows
-
-longest-short : (rows : List Row) (r : List Char) → T (allShort rows) → longest rows r .len ≤ 3
-unfolding longest
-longest-short [] r t = omega arith
-longest-short (row ∷ rows) r t =
-    let P : Operator → Type 0 = λ x. x .len ≤ 3 in
-    let here = leb-true _ _ (true-of _ (and-left (leb (length (row .name)) 3) (allShort rows) t)) in
-    let rest = longest-short rows r (and-right (leb (length (row .name)) 3) (allShort rows) t) in
-    cond-ind P (begins (row .name) r) _ _
-    (λ _. cond-ind P (leb (longest rows r .len) (length (row .name))) _ _ (λ _. here) (λ _. rest)) (λ _. rest)
-
 -- each of those first bytes is an operator by itself, and no other rule reads it
 abbrev ByItself : ℕ → Type 0
 ByItself b = T (ltb 0 b && (ltb b 0x80 && spells (b ∷ []) operators)) × ((mark : Bool) (r : List Char) → lexBy mark b r ≡ lexOperator mark r)
@@ -280,15 +228,10 @@ module _ (s : List ℕ) (at : ℕ) (o : Operator) (is : o ≡ operatorOf (chars 
   begins-there = rw (open-chars s at (getD s at 0) (first-byte .0) (first-byte .1) refl, eq-eqb (getD s at 0) (getD s at 0) refl)
 
   pub operator-kind : (ADD ≤ o .kind) × (o .kind ≤ COLON)
-  unfolding operators
   operator-kind =
       let r = chars (drop at s) in
-      let long = longest-least (getD s at 0 ∷ []) operators r begins-there (first-byte .2) in
-      rw is (⊎-elim (λ e. absurd (omega (arith, e, long))) (λ t. between-true ADD (operatorOf r .kind) COLON t) (longest-proper operators r tt))
-
-  pub operator-short : o .len ≤ 3
-  unfolding operators
-  operator-short = rw is (longest-short operators (chars (drop at s)) tt)
+      let long = operator-least (getD s at 0 ∷ []) r begins-there (first-byte .2) in
+      rw is (⊎-elim (λ e. absurd (omega (arith, e, long))) (λ t. between-true ADD (operatorOf r .kind) COLON t) (operator-proper r))
 
   pub operator-within : at + o .len ≤ length s
   operator-within = operator-fits s at true o is (omega (arith, reach s at (first-byte .0)))

@@ -52,7 +52,7 @@ tokensNumbers (t ∷ ts) = tokenNumbers t ++ tokensNumbers ts
 abbrev pub tokenRoom : List ℕ → ℕ
 tokenRoom tokens = length tokens / tokenWidth
 
--- the same with the tokens by their numbers, at the front of a slice, and their count
+-- the same with the tokens by their numbers in a slice, and their count
 pub record Left : Type 0 where
   pub refusal : ℕ
   pub state : State
@@ -61,18 +61,6 @@ pub record Left : Type 0 where
   pub area : List ℕ
   pub tokens : List ℕ
   pub count : ℕ
-
-unfoldable pub leftBy : List ℕ → Run → Left
-leftBy tokens r =
-    record {
-      refusal = r .refusal;
-      state = r .state;
-      table = r .table;
-      list = r .list;
-      area = r .area;
-      tokens = sets tokens 0 (tokensNumbers (r .tokens));
-      count = length (r .tokens);
-    }
 
 -- the tokens of these scans are written behind n others
 abbrev pub leftAfter : ℕ → List ℕ → Run → Left
@@ -86,3 +74,7 @@ leftAfter n tokens r =
       tokens = sets tokens (n * tokenWidth) (tokensNumbers (r .tokens));
       count = n + length (r .tokens);
     }
+
+-- at the front
+unfoldable pub leftBy : List ℕ → Run → Left
+leftBy tokens r = leftAfter 0 tokens r

@@ -1,19 +1,36 @@
--- Laws of the longest operator: its bound, more text behind a line feed, and when there is none.
+-- Laws of the longest operator: its bounds, more text behind a line feed, when there is none, and its kind.
 use Prim.Native.Nat.{ℕ, suc, _≤_, _<_}
 use mathlib.Core.Path.{_≡_, refl}
-use mathlib.Core.Bool.{Bool, true, false, not, _&&_, false≢true}
+use mathlib.Core.Bool.{Bool, true, false, not, _&&_, _||_, false≢true}
 use mathlib.Core.List.{List, [], _∷_, _++_}
+use mathlib.Core.Logic.{_⊎_, inl, inr, ⊎-elim}
 use native.Mathlib.Omega.{arith}
 use lib.Dec.{T, leb, eqb}
 use lib.ListN.{length}
-use borrow.Author.Tests.{eqb-true}
-use Rattle.basics.proofs.Choice.{cond-ind, and-left, and-right, and-split}
+use borrow.Author.Tests.{eqb-true, leb-true, leb-false}
+use Rattle.basics.specs.Between.{between}
+use Rattle.basics.specs.Same.{same}
+use Rattle.basics.proofs.Choice.{cond-ind, either, true-of, and-left, and-right, and-split}
+use Rattle.basics.proofs.Every.{every}
+use Rattle.basics.proofs.Lists.{same-true}
 use Rattle.utf8.specs.declared.Char.{Char}
 use Rattle.utf8.proofs.Ends.{Ends, ends-tail, ends-some}
-use Rattle.token.specs.Kinds.{ILLEGAL}
+use Rattle.token.specs.Kinds.{ILLEGAL, ADD, COLON}
 use Rattle.token.specs.Table.{Row, operators}
 use Rattle.operators.specs.declared.Operator.{Operator}
-use Rattle.operators.specs.Longest.{begins, longest, operatorOf}
+use Rattle.operators.specs.Longest.{begins, op, none, longest, operatorOf}
+
+-- ---- what holds of no operator, and of each row that passes a test and that the characters begin with, holds of the longest
+longest-ind : (P : Operator → Type 0) (test : Row → Bool) (r : List Char) → P none
+    → ((row : Row) → T (test row) → begins (row .name) r ≡ true → P (op (row .kind) (length (row .name))))
+    → (rows : List Row) (i : ℕ) → T (every (λ _. test) i rows) → P (longest rows r)
+unfolding longest
+longest-ind P test r z f [] i t = z
+longest-ind P test r z f (row ∷ rows) i t =
+    let here = f row (and-left (test row) (every (λ _. test) (suc i) rows) t) in
+    let rest = longest-ind P test r z f rows (suc i) (and-right (test row) (every (λ _. test) (suc i) rows) t) in
+    cond-ind P (begins (row .name) r) _ _
+    (λ e. cond-ind P (leb (longest rows r .len) (length (row .name))) _ _ (λ _. here e) (λ _. rest)) (λ _. rest)
 
 -- ---- no longer than the text
 begins-bound : (xs : List ℕ) (r : List Char) → begins xs r ≡ true → length xs ≤ length r
@@ -22,17 +39,9 @@ begins-bound [] r e = omega arith
 begins-bound (x ∷ xs) [] e = absurd (false≢true e)
 begins-bound (x ∷ xs) (c ∷ r) e = omega (arith, begins-bound xs r (and-split (eqb (c .code) x) (begins xs r) e .1))
 
-longest-bound : (rows : List Row) (r : List Char) → longest rows r .len ≤ length r
-unfolding longest
-longest-bound [] r = omega arith
-longest-bound (row ∷ rows) r =
-    let P : Operator → Type 0 = λ x. x .len ≤ length r in
-    let rest = longest rows r in
-    cond-ind P (begins (row .name) r) _ _
-    (λ e. cond-ind P (leb (rest .len) (length (row .name))) _ _ (λ _. begins-bound (row .name) r e) (λ _. longest-bound rows r)) (λ _. longest-bound rows r)
-
 pub operator-bound : (r : List Char) → operatorOf r .len ≤ length r
-operator-bound r = longest-bound operators r
+unfolding operators
+operator-bound r = longest-ind (λ x. x .len ≤ length r) (λ _. true) r (omega arith) (λ row _ e. begins-bound (row .name) r e) operators 0 tt
 
 -- ---- in a text that ends in a line feed
 abbrev noFeed : List ℕ → Bool
@@ -53,52 +62,73 @@ begins-local (x ∷ xs) (c ∷ r) t n h = go (eqb (c .code) x) refl (begins-loca
     go true e ih = let q = ih (ends-tail c r h (feed e)) in (q .0, λ b. omega (arith, q .1 b))
     go false e ih = (refl, λ b. absurd (false≢true b))
 
-abbrev noFeeds : List Row → Bool
-noFeeds [] = true
-noFeeds (row ∷ rows) = noFeed (row .name) && noFeeds rows
+abbrev feedless : Row → Bool
+feedless row = noFeed (row .name)
 
-longest-local : (rows : List Row) (r t : List Char) → T (noFeeds rows) → Ends r → (longest rows (r ++ t) ≡ longest rows r) × (longest rows r .len < length r)
+longest-local : (rows : List Row) (i : ℕ) (r t : List Char) → T (every (λ _. feedless) i rows) → Ends r → longest rows (r ++ t) ≡ longest rows r
 unfolding longest
-longest-local [] r t n h = (refl, ends-some r h)
-longest-local (row ∷ rows) r t n h =
-    let q = longest-local rows r t (and-right (noFeed (row .name)) (noFeeds rows) n) h in
-    let b = begins-local (row .name) r t (and-left (noFeed (row .name)) (noFeeds rows) n) h in
-    let P : Operator → Type 0 = λ x. x .len < length r in (
-      rw (b .0, q .0),
-      cond-ind P (begins (row .name) r) _ _
-          (λ e. cond-ind P (leb (longest rows r .len) (length (row .name))) _ _ (λ _. b .1 e) (λ _. q .1)) (λ _. q .1),
+longest-local [] i r t n h = refl
+longest-local (row ∷ rows) i r t n h =
+    rw (
+      begins-local (row .name) r t (and-left (feedless row) (every (λ _. feedless) (suc i) rows) n) h .0,
+      longest-local rows (suc i) r t (and-right (feedless row) (every (λ _. feedless) (suc i) rows) n) h,
     )
 
 pub operator-local : (r t : List Char) → Ends r → (operatorOf (r ++ t) ≡ operatorOf r) × (operatorOf r .len < length r)
 unfolding operators
-operator-local r t h = longest-local operators r t tt h
+operator-local r t h = (
+  longest-local operators 0 r t tt h,
+  longest-ind (λ x. x .len < length r) feedless r (ends-some r h) (λ row n e. begins-local (row .name) r [] n h .1 e) operators 0 tt,
+)
 
 -- ---- no operator is of kind ILLEGAL or of no characters
-abbrev some : Row → Bool
-some row = not (eqb (row .kind) ILLEGAL) && not (eqb (length (row .name)) 0)
-
-abbrev allSome : List Row → Bool
-allSome [] = true
-allSome (row ∷ rows) = some row && allSome rows
-
-abbrev Agree : Operator → Type 0
-Agree x = eqb (x .kind) ILLEGAL ≡ eqb (x .len) 0
-
 both-false : (a b : Bool) → T (not a && not b) → a ≡ b
 both-false true b t = absurd t
 both-false false true t = absurd t
 both-false false false t = refl
 
-longest-none : (rows : List Row) (r : List Char) → T (allSome rows) → Agree (longest rows r)
-unfolding longest
-longest-none [] r n = refl
-longest-none (row ∷ rows) r n =
-    let ih = longest-none rows r (and-right (some row) (allSome rows) n) in
-    let here = both-false (eqb (row .kind) ILLEGAL) (eqb (length (row .name)) 0) (and-left (some row) (allSome rows) n) in
-    cond-ind Agree (begins (row .name) r) _ _
-    (λ _. cond-ind Agree (leb (longest rows r .len) (length (row .name))) _ _ (λ _. here) (λ _. ih)) (λ _. ih)
-
 -- the kind is ILLEGAL just where there are no characters
 pub operator-none : (r : List Char) → eqb (operatorOf r .kind) ILLEGAL ≡ eqb (operatorOf r .len) 0
 unfolding operators
-operator-none r = longest-none operators r tt
+operator-none r =
+    longest-ind (λ x. eqb (x .kind) ILLEGAL ≡ eqb (x .len) 0) (λ row. not (eqb (row .kind) ILLEGAL) && not (eqb (length (row .name)) 0)) r
+    refl (λ row t _. both-false (eqb (row .kind) ILLEGAL) (eqb (length (row .name)) 0) t) operators 0 tt
+
+-- any other is from ADD to COLON
+pub operator-proper : (r : List Char) → (operatorOf r .len ≡ 0) ⊎ (between ADD (operatorOf r .kind) COLON ≡ true)
+unfolding operators
+operator-proper r =
+    longest-ind (λ x. (x .len ≡ 0) ⊎ (between ADD (x .kind) COLON ≡ true)) (λ row. between ADD (row .kind) COLON) r
+    (inl refl) (λ row t _. inr (true-of _ t)) operators 0 tt
+
+-- none is of more than three characters
+pub operator-short : (r : List Char) → operatorOf r .len ≤ 3
+unfolding operators
+operator-short r =
+    longest-ind (λ x. x .len ≤ 3) (λ row. leb (length (row .name)) 3) r
+    (omega arith) (λ row t _. leb-true _ _ (true-of _ t)) operators 0 tt
+
+-- ---- a row has this spelling
+abbrev pub spells : List ℕ → List Row → Bool
+spells xs [] = false
+spells xs (row ∷ rows) = same xs (row .name) || spells xs rows
+
+-- the longest is no shorter than a spelling that the characters begin with
+longest-least : (xs : List ℕ) (rows : List Row) (r : List Char) → begins xs r ≡ true → spells xs rows ≡ true → length xs ≤ longest rows r .len
+unfolding longest
+longest-least xs [] r b t = absurd (false≢true t)
+longest-least xs (row ∷ rows) r b t =
+    let P : Operator → Type 0 = λ x. length xs ≤ x .len in
+    let rest = longest rows r in
+    ⊎-elim
+    (λ (e : same xs (row .name) ≡ true).
+    rw (← same-true xs (row .name) e, b)
+    (cond-ind P (leb (rest .len) (length xs)) _ _ (λ _. omega arith) (λ l. omega (arith, leb-false (rest .len) (length xs) l))))
+    (λ (e : same xs (row .name) ≡ false).
+    let ih = longest-least xs rows r b (rw e at t) in
+    cond-ind P (begins (row .name) r) _ _
+    (λ _. cond-ind P (leb (rest .len) (length (row .name))) _ _ (λ l. omega (arith, ih, leb-true (rest .len) (length (row .name)) l)) (λ _. ih)) (λ _. ih))
+    (either (same xs (row .name)))
+
+pub operator-least : (xs : List ℕ) (r : List Char) → begins xs r ≡ true → spells xs operators ≡ true → length xs ≤ operatorOf r .len
+operator-least xs r b t = longest-least xs operators r b t

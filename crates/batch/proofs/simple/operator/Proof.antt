@@ -1,15 +1,18 @@
 -- `simple::operator` meets its contract: there is an operator, as its first byte is one by itself.
-use Prim.Native.Nat.{_+_}
+use Prim.Native.Nat.{_+_, _≤_}
 use mathlib.Core.Bool.{false}
 use mathlib.Core.Path.{_∙_}
 use native.Mathlib.Nat.{add-zero}
 use native.Mathlib.Omega.{arith}
 use borrow.Author.Tests.{ne-eqb}
 use borrow.Author.Needs.{needs}
+use lib.ListN.{drop}
+use Rattle.utf8.specs.Chars.{chars}
 use Rattle.token.specs.Kinds.{EOF, STRING}
+use Rattle.operators.proofs.Bounds.{operator-short}
 use Rattle.lexer.specs.declared.lexed.Text.the-variants.{Empty}
 use Rattle.lexer.specs.Lexeme.{setsMark}
-use Rattle.batch.proofs.SimpleTokens.{operator-kind, operator-short, operator-within, operator-reads}
+use Rattle.batch.proofs.SimpleTokens.{operator-kind, operator-within, operator-reads}
 use Rattle.batch.proofs.Giving.{gives-plain}
 use Rattle.batch.proofs.simple.operator.Statement.{statement}
 use Rattle.batch.proofs.simple.operator.Tie as tie
@@ -44,7 +47,7 @@ returns c =
     let o = x .scan-operator .result in
     let is = x .scan-operator .ensures in
     let k = operator-kind (a .src .now) (a .at) o is (s .pre .2) in
-    let n = operator-short (a .src .now) (a .at) o is (s .pre .2) in
+    let n : o .len ≤ 3 = rw is (operator-short (chars (drop (a .at) (a .src .now)))) in
     gives-plain (a .src .now) (a .at) (a .safe) (a .position) (a .tokens .now) (a .to) (o .kind) (a .at + o .len) false (setsMark (o .kind)) Empty 0
     (operator-reads (a .src .now) (a .at) o is (s .pre .2))
     (ne-eqb (o .kind) EOF (λ e. omega (arith, e, k .0))) (ne-eqb (o .kind) STRING (λ e. omega (arith, e, k .0)))
