@@ -1,7 +1,7 @@
 -- The characters that an escape reads: they are there, and each is the quote or lies between 0 and z.
 use Prim.Native.Nat.{ℕ, zero, suc, _*_, _+_, _≤_, _<_, suc-le-suc}
-use mathlib.Core.Path.{_≡_, refl, sym, _∙_, subst}
-use mathlib.Core.Bool.{Bool, true, false, _&&_, true≢false}
+use mathlib.Core.Path.{_≡_, refl, sym, subst}
+use mathlib.Core.Bool.{Bool, true, _&&_}
 use mathlib.Core.List.{List, [], _∷_}
 use mathlib.Core.Logic.{_⊎_, inl, inr, ⊎-elim}
 use native.Mathlib.Omega.{arith}
@@ -9,7 +9,7 @@ use native.Mathlib.Nat.{not-suc-le-zero, le-of-suc-le-suc}
 use native.Mathlib.Decide.{decLt}
 use lib.Dec.{T, eqb, ltb}
 use lib.ListN.{length, getD, take, drop}
-use borrow.Author.Tests.{eq-eqb, ne-eqb, eqb-true, ltb-true, lt-leb, le-leb}
+use borrow.Author.Tests.{ne-eqb, eqb-true, eqb-false, ltb-true, lt-leb, le-leb}
 use Rattle.basics.specs.Between.{between}
 use Rattle.basics.proofs.Choice.{cond-ind, and-left, and-right, between-true, true-of}
 use Rattle.utf8.specs.declared.Char.{Char}
@@ -83,10 +83,6 @@ following-out : (c : ℕ) → Out c → following c ≡ 0
 unfolding following
 following-out = lookup-out ((120, 2) ∷ (117, 4) ∷ (85, 8) ∷ []) tt
 
--- a test that fails
-pub not-so : (a b : ℕ) → eqb a b ≡ false → a ≡ b → ⊥
-not-so a b f e = true≢false (sym (eq-eqb a b e) ∙ f)
-
 -- ---- what holds of the quote and of all codes between 0 and z holds of what an escape reads
 module _ (P : ℕ → Type 0) (inside : (c : ℕ) → 48 ≤ c → c ≤ 122 → P c) where
   pub numeral-heads : (base n v : ℕ) (r : List Char) → base ≤ 16 → Heads P (numeral base n v r .len) r
@@ -102,7 +98,7 @@ module _ (P : ℕ → Type 0) (inside : (c : ℕ) → 48 ≤ c → c ≤ 122 →
   unfolding hexEscape
   hex-heads c r =
       cond-ind (λ (x : Escaped). Heads P (x .len) (c ∷ r)) (eqb (following (c .code)) 0) _ _ (λ _. tt)
-      (λ f. let g = within (c .code) (λ o. not-so _ _ f (following-out (c .code) o)) in (inside (c .code) (g .0) (g .1), numeral-heads 16 (following (c .code)) 0 r (omega arith)))
+      (λ f. let g = within (c .code) (λ o. eqb-false _ _ f (following-out (c .code) o)) in (inside (c .code) (g .0) (g .1), numeral-heads 16 (following (c .code)) 0 r (omega arith)))
 
   module _ (quote : ℕ) (at-quote : P quote) where
     pub escape-heads : (r : List Char) → Heads P (escapeOf quote r .len) r
@@ -114,7 +110,7 @@ module _ (P : ℕ → Type 0) (inside : (c : ℕ) → 48 ≤ c → c ≤ 122 →
         (λ q. (subst P (sym (eqb-true (c .code) quote q)) at-quote, tt))
         (λ _. cond-ind (λ (x : Escaped). Heads P (x .len) (c ∷ r)) (ltb (digitVal (c .code)) 8) _ _
         (λ _. numeral-heads 8 3 0 (c ∷ r) (omega arith)) (λ _. hex-heads c r)))
-        (λ l. let g = within (c .code) (λ o. not-so _ _ l (letter-out (c .code) o)) in (inside (c .code) (g .0) (g .1), tt))
+        (λ l. let g = within (c .code) (λ o. eqb-false _ _ l (letter-out (c .code) o)) in (inside (c .code) (g .0) (g .1), tt))
 
 -- an escape reads characters of the text
 pub escape-bound : (quote : ℕ) (r : List Char) → escapeOf quote r .len ≤ length r
