@@ -8,12 +8,13 @@ use lib.Dec.{T, leb, eqb}
 use lib.ListN.{length}
 use borrow.Author.Tests.{eqb-true}
 use Rattle.basics.proofs.Choice.{cond-ind, and-left, and-right, and-split}
+use Rattle.basics.proofs.Every.{each, each-ind}
 use Rattle.utf8.specs.declared.Char.{Char}
 use Rattle.utf8.proofs.Ends.{Ends, ends-tail, ends-some}
 use Rattle.token.specs.Kinds.{ILLEGAL}
 use Rattle.token.specs.Table.{Row, operators}
 use Rattle.operators.specs.declared.Operator.{Operator}
-use Rattle.operators.specs.Longest.{begins, longer, longest, operatorOf}
+use Rattle.operators.specs.Longest.{begins, op, none, longest, operatorOf}
 
 -- ---- no longer than the text
 begins-bound : (xs : List ℕ) (r : List Char) → begins xs r ≡ true → length xs ≤ length r
@@ -22,22 +23,21 @@ begins-bound [] r e = omega arith
 begins-bound (x ∷ xs) [] e = absurd (false≢true e)
 begins-bound (x ∷ xs) (c ∷ r) e = omega (arith, begins-bound xs r (and-split (eqb (c .code) x) (begins xs r) e .1))
 
-longest-bound : (rows : List Row) (r : List Char) → longest rows r .len ≤ length r
+-- what holds of no operator, and of each row that the characters begin with, holds of the longest; f is a test that the rows pass
+pub longest-ind : (P : Operator → Type 0) (f : Row → Bool) (r : List Char) → P none
+    → ((row : Row) → T (f row) → begins (row .name) r ≡ true → P (op (row .kind) (length (row .name)))) → (rows : List Row) → T (each f rows) → P (longest rows r)
 unfolding longest
-longest-bound [] r = omega arith
-longest-bound (row ∷ rows) r =
-    let P : Operator → Type 0 = λ x. x .len ≤ length r in
-    let rest = longest rows r in
-    cond-ind P (begins (row .name) r) _ _
-    (λ e. cond-ind P (leb (rest .len) (length (row .name))) _ _ (λ _. begins-bound (row .name) r e) (λ _. longest-bound rows r)) (λ _. longest-bound rows r)
+longest-ind P f r base one =
+    each-ind f (λ rows. P (longest rows r)) base (λ row rows t rest.
+    cond-ind P (begins (row .name) r) _ _ (λ b. cond-ind P (leb (longest rows r .len) (length (row .name))) _ _ (λ _. one row t b) (λ _. rest)) (λ _. rest))
 
 pub operator-bound : (r : List Char) → operatorOf r .len ≤ length r
-operator-bound r = longest-bound operators r
+unfolding operators
+operator-bound r = longest-ind (λ x. x .len ≤ length r) (λ _. true) r (omega arith) (λ row _. begins-bound (row .name) r) operators tt
 
 -- ---- in a text that ends in a line feed
 abbrev noFeed : List ℕ → Bool
-noFeed [] = true
-noFeed (x ∷ xs) = not (eqb x 10) && noFeed xs
+noFeed = each (λ x. not (eqb x 10))
 
 begins-local : (xs : List ℕ) (r t : List Char) → T (noFeed xs) → Ends r → (begins xs (r ++ t) ≡ begins xs r) × (begins xs r ≡ true → length xs < length r)
 unfolding begins
@@ -53,33 +53,16 @@ begins-local (x ∷ xs) (c ∷ r) t n h = go (eqb (c .code) x) refl (begins-loca
     go true e ih = let q = ih (ends-tail c r h (feed e)) in (q .0, λ b. omega (arith, q .1 b))
     go false e ih = (refl, λ b. absurd (false≢true b))
 
-abbrev noFeeds : List Row → Bool
-noFeeds [] = true
-noFeeds (row ∷ rows) = noFeed (row .name) && noFeeds rows
-
-longest-local : (rows : List Row) (r t : List Char) → T (noFeeds rows) → Ends r → (longest rows (r ++ t) ≡ longest rows r) × (longest rows r .len < length r)
-unfolding longest
-longest-local [] r t n h = (refl, ends-some r h)
-longest-local (row ∷ rows) r t n h =
-    let q = longest-local rows r t (and-right (noFeed (row .name)) (noFeeds rows) n) h in
-    let b = begins-local (row .name) r t (and-left (noFeed (row .name)) (noFeeds rows) n) h in
-    let P : Operator → Type 0 = λ x. x .len < length r in (
-      rw (b .0, q .0),
-      cond-ind P (begins (row .name) r) _ _
-          (λ e. cond-ind P (leb (longest rows r .len) (length (row .name))) _ _ (λ _. b .1 e) (λ _. q .1)) (λ _. q .1),
-    )
-
 pub operator-local : (r t : List Char) → Ends r → (operatorOf (r ++ t) ≡ operatorOf r) × (operatorOf r .len < length r)
-unfolding operators
-operator-local r t h = longest-local operators r t tt h
+unfolding operators longest
+operator-local r t h = (
+  each-ind (λ row. noFeed (row .name)) (λ rows. longest rows (r ++ t) ≡ longest rows r) refl (λ row rows n same. rw (begins-local (row .name) r t n h .0, same)) operators tt,
+  longest-ind (λ x. x .len < length r) (λ row. noFeed (row .name)) r (ends-some r h) (λ row n. begins-local (row .name) r t n h .1) operators tt,
+)
 
 -- ---- no operator is of kind ILLEGAL or of no characters
 abbrev some : Row → Bool
 some row = not (eqb (row .kind) ILLEGAL) && not (eqb (length (row .name)) 0)
-
-abbrev allSome : List Row → Bool
-allSome [] = true
-allSome (row ∷ rows) = some row && allSome rows
 
 abbrev Agree : Operator → Type 0
 Agree x = eqb (x .kind) ILLEGAL ≡ eqb (x .len) 0
@@ -89,16 +72,7 @@ both-false true b t = absurd t
 both-false false true t = absurd t
 both-false false false t = refl
 
-longest-none : (rows : List Row) (r : List Char) → T (allSome rows) → Agree (longest rows r)
-unfolding longest
-longest-none [] r n = refl
-longest-none (row ∷ rows) r n =
-    let ih = longest-none rows r (and-right (some row) (allSome rows) n) in
-    let here = both-false (eqb (row .kind) ILLEGAL) (eqb (length (row .name)) 0) (and-left (some row) (allSome rows) n) in
-    cond-ind Agree (begins (row .name) r) _ _
-    (λ _. cond-ind Agree (leb (longest rows r .len) (length (row .name))) _ _ (λ _. here) (λ _. ih)) (λ _. ih)
-
 -- the kind is ILLEGAL just where there are no characters
 pub operator-none : (r : List Char) → eqb (operatorOf r .kind) ILLEGAL ≡ eqb (operatorOf r .len) 0
 unfolding operators
-operator-none r = longest-none operators r tt
+operator-none r = longest-ind Agree some r refl (λ row t _. both-false (eqb (row .kind) ILLEGAL) (eqb (length (row .name)) 0) t) operators tt
