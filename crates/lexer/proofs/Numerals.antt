@@ -28,7 +28,7 @@ use Rattle.lexer.specs.declared.lexed.Lexed.{Lexed}
 use Rattle.lexer.specs.Words.{lexNumber}
 use Rattle.lexer.specs.Made.{gainedBy, respelledBy}
 use Rattle.lexer.specs.Placed.{textDiffersIn, placed, said}
-use Rattle.lexer.proofs.Said.{right-said, exact-length, text-same, text-some}
+use Rattle.lexer.proofs.Said.{alike, exact-length, text-same, text-some}
 use Rattle.lexer.proofs.Ascii.{AsciiFacts, encode-ascii, ascii-facts}
 
 -- ---- how long the text is
@@ -133,7 +133,7 @@ module _ (s : List ℕ) (at : ℕ) where
   read = omega arith
 
   pub numeral-said : said s at (numeralAt (numberAt at (number (chars (drop at s))))) ≡ placed s at (lexNumber (chars (drop at s)))
-  unfolding lexNumber same
+  unfolding said placed lexNumber same
   numeral-said =
       let r = chars (drop at s) in
       let x = number r in
@@ -141,7 +141,7 @@ module _ (s : List ℕ) (at : ℕ) where
       let cs = take (x .len) r in
       let h : Spelled (x .spelling) cs (length (encoded cs)) = rw (f .size) (spelled-take (x .spelling) r (x .len) (number-spelled r)) in
       let low : (i : ℕ) → i < length (encoded cs) → getD cs i ended .code < 0x80 = rw (f .size) (λ i l. rw (getD-take (x .len) r i ended l) (number-ascii r i l .0)) in
-      right-said s at (numeralAt (numberAt at x)) (lexNumber r)
+      alike
       (record {
         lexeme = rw (read, ← f .shown);
         end = rw (f .width);

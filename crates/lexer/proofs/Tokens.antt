@@ -37,7 +37,7 @@ use Rattle.lexer.specs.Lex.{lexIllegal, lexOperator}
 use Rattle.lexer.specs.Made.{madeAt, shownAt}
 use Rattle.lexer.specs.Placed.{textDiffersIn, placed, said}
 use Rattle.lexer.proofs.Known.{word-no-string, operator-no-string}
-use Rattle.lexer.proofs.Said.{right-said, exact-length, text-same, text-some}
+use Rattle.lexer.proofs.Said.{alike, exact-length, text-same, text-some}
 use Rattle.lexer.proofs.Ascii.{Ascii, ascii-none, ascii-facts}
 
 -- ---- tokens of n ASCII characters
@@ -46,10 +46,10 @@ module _ (s : List ℕ) (at end n kind : ℕ) (mark : Bool) (a : Ascii n (chars 
   read = omega (arith, e)
 
   pub bare-said : said s at (madeAt kind at end mark Empty NoValue) ≡ placed s at (bare kind n mark)
-  unfolding same
+  unfolding said placed same
   bare-said =
       let f = ascii-facts n s at a in
-      right-said s at (madeAt kind at end mark Empty NoValue) (bare kind n mark)
+      alike
       (record {
         lexeme = rw read;
         end = rw (f .width) e;
@@ -62,11 +62,11 @@ module _ (s : List ℕ) (at end n kind : ℕ) (mark : Bool) (a : Ascii n (chars 
       })
 
   pub shown-said : said s at (shownAt kind at end mark) ≡ placed s at (shown kind n (encoded (take n (chars (drop at s)))) 0 mark)
-  unfolding same
+  unfolding said placed same
   shown-said =
       let f = ascii-facts n s at a in
       let text = encoded (take n (chars (drop at s))) in
-      right-said s at (shownAt kind at end mark) (shown kind n text 0 mark)
+      alike
       (record {
         lexeme = rw read;
         end = rw (f .width) e;
@@ -204,11 +204,11 @@ module _ (s : List ℕ) (at : ℕ) (h : at < length s) where
 
   module _ (mark : Bool) (no-lf : eqb (getD s at 0) 10 ≡ false) where
     first-said : said s at (illegalAt at (firstChar (drop at s) .width) mark (isStray (firstChar (drop at s)))) ≡ placed s at (lexIllegal mark 1 (chars (drop at s)))
-    unfolding same
+    unfolding said placed same
     first-said =
         let f = firstChar (drop at s) in
         let e = chars-at s at h in
-        right-said s at (illegalAt at (f .width) mark (isStray f)) (lexIllegal mark 1 (chars (drop at s)))
+        alike
         (record {
           lexeme = refl;
           end = rw e (omega arith);
