@@ -1,7 +1,7 @@
 -- The operator at a place by the byte there, the rows of the table that start with it, and the next bytes.
 use Prim.Native.Nat.{ℕ, _+_, _≤_}
 use mathlib.Core.Path.{_≡_, refl, sym, ap, _∙_}
-use mathlib.Core.Bool.{Bool, true, false, cond, _&&_, _||_, false≢true}
+use mathlib.Core.Bool.{Bool, true, false, cond, _&&_, _||_, false≢true, and-true}
 use mathlib.Core.List.{List, [], _∷_}
 use lib.Dec.{T, eqb}
 use lib.ListN.{length, getD, drop}
@@ -103,19 +103,15 @@ module _ (f : List ℕ → Bool) where
   pick-dots k l a x v false e g = rw (e, g)
 
 -- ---- the tests of the spellings that start with the byte at a place
-and-yes : (b : Bool) → b && true ≡ b
-and-yes true = refl
-and-yes false = refl
-
 module _ (s : List ℕ) (p a : ℕ) (e : getD s p 0 ≡ a) where
   starts-one : starts (a ∷ []) s p ≡ true
   starts-one = rw (eq-eqb _ _ e)
 
   starts-two : (x : ℕ) → starts (a ∷ x ∷ []) s p ≡ eqb (getD s (p + 1) 0) x
-  starts-two x = rw (eq-eqb _ _ e, and-yes (eqb (getD s (p + 1) 0) x))
+  starts-two x = rw (eq-eqb _ _ e, and-true (eqb (getD s (p + 1) 0) x))
 
   starts-three : (x y : ℕ) → starts (a ∷ x ∷ y ∷ []) s p ≡ eqb (getD s (p + 1) 0) x && eqb (getD s (p + 1 + 1) 0) y
-  starts-three x y = rw (eq-eqb _ _ e, and-yes (eqb (getD s (p + 1 + 1) 0) y))
+  starts-three x y = rw (eq-eqb _ _ e, and-true (eqb (getD s (p + 1 + 1) 0) y))
 
   first-rows : (rows : List Row) → among a operators ≡ rows → operatorOf (chars (drop p s)) ≡ best (λ n. starts n s p) rows
   first-rows rows w = table-bytes s p ∙ best-among operators s p ∙ ap (best (λ n. starts n s p)) (ap (λ x. among x operators) e ∙ w)
