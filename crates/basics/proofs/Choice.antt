@@ -46,10 +46,6 @@ pub none-of : (a b : Bool) → a || b ≡ false → (a ≡ false) × (b ≡ fals
 none-of true b e = absurd (true≢false e)
 none-of false b e = (refl, e)
 
-pub and-no : (a : Bool) → a && false ≡ false
-and-no true = refl
-and-no false = refl
-
 pub between-true : (lo n hi : ℕ) → between lo n hi ≡ true → (lo ≤ n) × (n ≤ hi)
 between-true lo n hi e =
     let t : T (between lo n hi) = subst T (sym e) tt in

@@ -25,6 +25,16 @@ from f (x ∷ xs) i d t (suc k) h =
 pub every-entry : {A : Type 0} (f : ℕ → A → Bool) (xs : List A) (d : A) → T (every f 0 xs) → (k : ℕ) → k < length xs → T (f k (getD xs k d))
 every-entry f xs d t k h = subst (λ (m : ℕ). T (f m (getD xs k d))) (zero-add k) (from f xs 0 d t k h)
 
+-- the test f passes at each element
+abbrev pub each : {A : Type 0} → (A → Bool) → List A → Bool
+each f [] = true
+each f (x ∷ xs) = f x && each f xs
+
+-- what holds of no elements, and of one more that passes, holds of a list of such elements
+pub each-ind : {A : Type 0} (f : A → Bool) (P : List A → Type 0) → P [] → ((x : A) (xs : List A) → T (f x) → P xs → P (x ∷ xs)) → (xs : List A) → T (each f xs) → P xs
+each-ind f P none more [] t = none
+each-ind f P none more (x ∷ xs) t = more x xs (and-left (f x) (each f xs) t) (each-ind f P none more xs (and-right (f x) (each f xs) t))
+
 -- the test f passes at each number below n
 abbrev pub below : (ℕ → Bool) → ℕ → Bool
 below f zero = true

@@ -1,22 +1,26 @@
 -- Laws of lists: the next element, the element at an index, and whether two lists are the same.
 use Prim.Native.Nat.{ℕ, zero, suc, _+_, _≤_, _<_}
 use mathlib.Core.Path.{_≡_, refl, ap, ap₂}
-use mathlib.Core.Bool.{true, false, false≢true}
+use mathlib.Core.Bool.{true, false, false≢true, and-false}
 use mathlib.Core.Option.{none, some}
 use mathlib.Core.List.{List, [], _∷_, _++_}
 use native.Mathlib.Nat.{le-of-suc-le-suc, not-suc-le-zero}
 use native.Mathlib.Omega.{arith}
 use native.Mathlib.Numerals.{add-one}
 use lib.Dec.{eqb}
-use lib.ListN.{length, drop, getD, getElem?, drop-of-length-le}
-use lib.Seq.{drop-cons}
+use lib.ListN.{length, take, drop, getD, getElem?, length-drop, drop-of-length-le}
+use lib.Seq.{drop-cons, take-suc, getD-drop}
 use borrow.Author.Tests.{eq-eqb, ne-eqb, eqb-true}
 use Rattle.basics.specs.Same.{same}
-use Rattle.basics.proofs.Choice.{and-split, and-no}
+use Rattle.basics.proofs.Choice.{and-split}
 
 -- the code's p + 1
 pub drop-next : {A : Type 0} (s : List A) (p : ℕ) (d : A) → p < length s → drop p s ≡ getD s p d ∷ drop (p + 1) s
 drop-next s p d h = rw (add-one, drop-cons s p d)
+
+-- one element more from a place on
+pub take-more : {A : Type 0} (s : List A) (at k : ℕ) (d : A) → at + k < length s → take (k + 1) (drop at s) ≡ take k (drop at s) ++ (getD s (at + k) d ∷ [])
+take-more s at k d h = rw (add-one, take-suc (drop at s) k d (omega (arith, length-drop at s)), getD-drop)
 
 -- within a list the default does not matter
 pub getD-any : {A : Type 0} (s : List A) (k : ℕ) (d e : A) → k < length s → getD s k d ≡ getD s k e
@@ -65,7 +69,7 @@ unfolding same
 same-length [] [] h = absurd (h refl)
 same-length [] (y ∷ b) h = refl
 same-length (x ∷ a) [] h = refl
-same-length (x ∷ a) (y ∷ b) h = rw (same-length a b (λ e. h (ap suc e))) (and-no (eqb x y))
+same-length (x ∷ a) (y ∷ b) h = rw (same-length a b (λ e. h (ap suc e))) (and-false (eqb x y))
 
 -- what is left of two lists, from a place on
 module _ (a b : List ℕ) (i : ℕ) where

@@ -1,17 +1,15 @@
 -- Laws of plain bytes: the test of a block byte by byte, and a body that is read over n of them.
 use Prim.Native.Nat.{ℕ, zero, suc, _+_, _≤_, _<_}
 use mathlib.Core.Path.{_≡_, refl, sym, ap, _∙_}
-use mathlib.Core.Bool.{Bool, true, false, not, _||_}
+use mathlib.Core.Bool.{Bool, true, false, not, _||_, or-false, or-assoc}
 use mathlib.Core.List.{List, [], _∷_, _++_}
 use native.Mathlib.Omega.{arith}
 use native.Mathlib.Nat.{add-zero}
-use native.Mathlib.Numerals.{add-one}
 use lib.Dec.{ltb, leb, eqb}
-use lib.ListN.{length, getD, take, drop, length-drop}
-use lib.Seq.{take-suc, getD-drop}
+use lib.ListN.{length, getD, take, drop}
 use borrow.Author.Tests.{ltb-false, leb-true, le-leb, lt-leb, ne-eqb, not-true}
 use Rattle.basics.proofs.Choice.{and-split, none-of}
-use Rattle.basics.proofs.Lists.{drop-next}
+use Rattle.basics.proofs.Lists.{drop-next, take-more}
 use Rattle.utf8.specs.declared.Char.{Char}
 use Rattle.utf8.specs.Chars.{charAt}
 use Rattle.bodies.specs.declared.body.Body.{Body}
@@ -22,21 +20,13 @@ use Rattle.bodies.proofs.Bodies.{Reading, reading-next, grown-ascii, sa
 
 -- ---- the test of a block
 any-snoc : (x : ℕ) (s : List ℕ) (b : ℕ) → anySpecial x (s ++ (b ∷ [])) ≡ anySpecial x s || special x b
-any-snoc x [] b = or-none (special x b)
-  where
-    or-none : (t : Bool) → t || false ≡ t
-    or-none true = refl
-    or-none false = refl
-any-snoc x (c ∷ s) b = rw (any-snoc x s b) (or-assoc (special x c))
-  where
-    or-assoc : (t : Bool) → t || (anySpecial x s || special x b) ≡ (t || anySpecial x s) || special x b
-    or-assoc true = refl
-    or-assoc false = refl
+any-snoc x [] b = or-false (special x b)
+any-snoc x (c ∷ s) b = rw (any-snoc x s b) (sym (or-assoc (special x c) (anySpecial x s) (special x b)))
 
 module _ (x : ℕ) (s : List ℕ) (at : ℕ) where
   pub any-more : (k : ℕ) (t : Bool) → at + k < length s → t ≡ anySpecial x (take k (drop at s))
       → t || special x (getD s (at + k) 0) ≡ anySpecial x (take (k + 1) (drop at s))
-  any-more k t h e = rw (e, add-one, take-suc (drop at s) k 0 (omega (arith, length-drop at s)), any-snoc, getD-drop)
+  any-more k t h e = rw (e, take-more s at k 0 h, any-snoc)
 
   pub block-short : length s < at + 16 → plainBlock x s at ≡ false
   unfolding plainBlock

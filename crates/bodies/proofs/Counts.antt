@@ -1,7 +1,7 @@
 -- Laws of what a body holds: a text behind does not change it, what its last character adds, and that it is no more than its bytes.
 use Prim.Native.Nat.{ℕ, zero, suc, _+_, _-_, _≤_, _<_}
 use mathlib.Core.Path.{_≡_, refl, sym, ap, _∙_}
-use mathlib.Core.Bool.{Bool, true}
+use mathlib.Core.Bool.{Bool, true, and-false}
 use mathlib.Core.List.{List, [], _∷_, _++_}
 use native.Mathlib.Omega.{arith}
 use native.Mathlib.Decide.{decLt}
@@ -10,7 +10,6 @@ use lib.Dec.{eqb, lit≤}
 use lib.ListN.{length, getD, take, drop}
 use lib.Seq.{take-suc, take-append-le, drop-cons}
 use borrow.Author.Tests.{ne-eqb}
-use Rattle.basics.proofs.Choice.{and-no}
 use Rattle.utf8.specs.declared.Char.{Char}
 use Rattle.utf8.specs.Chars.{ended, firstChar, chars, widths, isStray}
 use Rattle.utf8.proofs.First.{first-least, chars-at, chars-end}
@@ -80,7 +79,7 @@ module _ (x : ℕ) (low : x < 0x80) (no-cr : x ≡ 13 → ⊥) (s : List ℕ) (p
       (record {
         bytes = rw d (widths-last r m h ∙ ap (λ w. widths (take m r) + w) (low-width s p m h (omega arith)));
         crs = rw d (count-last r m h isCr ∙ rw (ne-eqb (c .code) 13 (λ z. no-cr (sym k ∙ z)), add-zero));
-        strays = rw d (count-last r m h isStray ∙ rw (ne-eqb (c .code) 0xFFFD (λ z. omega arith), and-no (eqb (c .width) 1), add-zero));
+        strays = rw d (count-last r m h isStray ∙ rw (ne-eqb (c .code) 0xFFFD (λ z. omega arith), and-false (eqb (c .width) 1), add-zero));
       })
 
   -- the character that closes a span

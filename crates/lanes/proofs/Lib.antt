@@ -1,3 +1,5 @@
 pub mod Numbers
 pub mod Each
 pub mod Trailing
+pub mod Marks
+pub mod Runs

@@ -18,6 +18,7 @@ use Rattle.utf8.proofs.Places.{code-next, test-next}
 use Rattle.digits.specs.Digit.{isDecimal}
 use Rattle.token.specs.Kinds.{EOF}
 use Rattle.words.specs.Word.{isLetter}
+use Rattle.words.proofs.Words.{letter-high}
 use Rattle.lexer.specs.Lexeme.{Lexeme, bare, insertedSemicolon}
 use Rattle.lexer.specs.Words.{lexWord, lexNumber}
 use Rattle.lexer.specs.Quotes.{lexString, lexChar, lexRaw}
@@ -30,10 +31,6 @@ abbrev pub otherBy : Bool → ℕ → List Char → Lexeme
 otherBy mark b r = cond (eqb b 46) (lexDot mark r) (cond (eqb b 47) (lexSlash mark r) (lexOperator mark r))
 
 -- ---- no character above 127 has a rule of its own
-letter-high : (c : ℕ) → 0x80 ≤ c → isLetter c ≡ false
-unfolding isLetter
-letter-high c h = rw (above-it 97 c 122 (omega arith) (omega arith), above-it 65 c 90 (omega arith) (omega arith), ne-eqb c 95 (λ e. omega arith))
-
 decimal-high : (c : ℕ) → 0x80 ≤ c → isDecimal c ≡ false
 decimal-high c h = above-it 48 c 57 (omega arith) (omega arith)
 
@@ -101,7 +98,7 @@ module _ (mark : Bool) (s : List ℕ) (at : ℕ) (h : at < length s) where
   token-by = rw (chars-at s at h)
 
   -- the rule goes by the byte
-  by-byte : lexToken mark (chars (drop at s)) ≡ lexBy mark (getD s at 0) (chars (drop at s))
+  pub by-byte : lexToken mark (chars (drop at s)) ≡ lexBy mark (getD s at 0) (chars (drop at s))
   by-byte =
       elim (decLt (getD s at 0) 0x80) [
         | yes l ↦ token-by ∙ ap (λ (c : Char). lexBy mark (c .code) (chars (drop at s))) (ascii-there s at h l)
@@ -110,7 +107,7 @@ module _ (mark : Bool) (s : List ℕ) (at : ℕ) (h : at < length s) where
             ∙ sym (high-by mark (getD s at 0) (chars (drop at s)) (omega arith))
       ]
 
-  is-by : (b : ℕ) → getD s at 0 ≡ b → lexToken mark (chars (drop at s)) ≡ lexBy mark b (chars (drop at s))
+  pub is-by : (b : ℕ) → getD s at 0 ≡ b → lexToken mark (chars (drop at s)) ≡ lexBy mark b (chars (drop at s))
   is-by b e = by-byte ∙ ap (λ x. lexBy mark x (chars (drop at s))) e
 
   pub word-is : isLetter (getD s at 0) ≡ true → lexWord (chars (drop at s)) ≡ lexToken mark (chars (drop at s))

@@ -1,7 +1,7 @@
 -- What is said of a number is right: how long its text is, and where it differs from the bytes read.
 use Prim.Native.Nat.{ℕ, zero, suc, _+_, _-_, _≤_, _<_}
 use mathlib.Core.Path.{_≡_, refl, sym, ap, _∙_}
-use mathlib.Core.Bool.{true, false, not, false≢true}
+use mathlib.Core.Bool.{true, false, not, false≢true, and-false}
 use mathlib.Core.List.{List, [], _∷_, _++_}
 use native.Mathlib.Omega.{arith}
 use native.Mathlib.Nat.{add-zero}
@@ -10,7 +10,7 @@ use lib.Seq.{getD-take}
 use borrow.Author.Tests.{ne-eqb}
 use Rattle.basics.specs.Same.{same}
 use Rattle.basics.specs.Between.{between}
-use Rattle.basics.proofs.Choice.{and-no, between-true}
+use Rattle.basics.proofs.Choice.{between-true}
 use Rattle.basics.proofs.Lists.{same-length}
 use Rattle.utf8.specs.declared.Char.{Char}
 use Rattle.utf8.specs.Chars.{ended, chars, octets, encode, encoded}
@@ -28,7 +28,7 @@ use Rattle.lexer.specs.declared.lexed.Lexed.{Lexed}
 use Rattle.lexer.specs.Words.{lexNumber}
 use Rattle.lexer.specs.Made.{gainedBy, respelledBy}
 use Rattle.lexer.specs.Placed.{textDiffersIn, placed, said}
-use Rattle.lexer.proofs.Said.{right-said, exact-length, text-same, text-some}
+use Rattle.lexer.proofs.Said.{alike, exact-length, text-same, text-some}
 use Rattle.lexer.proofs.Ascii.{AsciiFacts, encode-ascii, ascii-facts}
 
 -- ---- how long the text is
@@ -65,13 +65,13 @@ second-differs [] l u = absurd (false≢true u)
 second-differs (a ∷ []) l u = absurd (false≢true u)
 second-differs (a ∷ b ∷ cs) l u =
     let c = b .code in
-    rw (encode-ascii (a .code) l, encode-ascii c (omega (arith, between-true 65 c 90 u .1)), u, ne-eqb (c + 32) c (λ e. omega arith), and-no)
+    rw (encode-ascii (a .code) l, encode-ascii c (omega (arith, between-true 65 c 90 u .1)), u, ne-eqb (c + 32) c (λ e. omega arith), and-false)
 
 -- a difference behind is one of the whole
 behind : (front bytes : List ℕ) → same (lowerE bytes) bytes ≡ false → same (lowerE (front ++ bytes)) (front ++ bytes) ≡ false
 unfolding same
 behind [] bytes e = e
-behind (b ∷ front) bytes e = rw (behind front bytes e, and-no)
+behind (b ∷ front) bytes e = rw (behind front bytes e, and-false)
 
 exponent-differs : (cs : List Char) (i : ℕ) → getD cs i ended .code ≡ 69 → same (lowerE (encoded cs)) (encoded cs) ≡ false
 unfolding same encode octets
@@ -133,7 +133,7 @@ module _ (s : List ℕ) (at : ℕ) where
   read = omega arith
 
   pub numeral-said : said s at (numeralAt (numberAt at (number (chars (drop at s))))) ≡ placed s at (lexNumber (chars (drop at s)))
-  unfolding lexNumber same
+  unfolding said placed lexNumber same
   numeral-said =
       let r = chars (drop at s) in
       let x = number r in
@@ -141,7 +141,7 @@ module _ (s : List ℕ) (at : ℕ) where
       let cs = take (x .len) r in
       let h : Spelled (x .spelling) cs (length (encoded cs)) = rw (f .size) (spelled-take (x .spelling) r (x .len) (number-spelled r)) in
       let low : (i : ℕ) → i < length (encoded cs) → getD cs i ended .code < 0x80 = rw (f .size) (λ i l. rw (getD-take (x .len) r i ended l) (number-ascii r i l .0)) in
-      right-said s at (numeralAt (numberAt at x)) (lexNumber r)
+      alike
       (record {
         lexeme = rw (read, ← f .shown);
         end = rw (f .width);

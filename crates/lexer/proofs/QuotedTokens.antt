@@ -29,7 +29,7 @@ use Rattle.lexer.specs.declared.lexed.Value.the-variants.{Empty as NoVal
 use Rattle.lexer.specs.declared.lexed.Lexed.{Lexed}
 use Rattle.lexer.specs.Quotes.{stringOf, lexString, charOf, lexChar}
 use Rattle.lexer.specs.Placed.{valueOf, lengthOf, said, placed}
-use Rattle.lexer.proofs.Said.{right-said, exact-with-strays, text-some}
+use Rattle.lexer.proofs.Said.{alike, exact-with-strays, text-some}
 use Rattle.lexer.proofs.Opened.{lexemeAs, open-chars, inside-token}
 
 -- ---- counts of characters
@@ -109,13 +109,12 @@ module _ (quote : ℕ) (some : 0 < quote) (low : quote < 0x80) (no-lf : quote �
       → valueOf how rest ≡ value → lengthOf bytes (inner .strays) differs ≡ length value
       → differs ≡ not (same value (cond (eqb kind STRING) (take (size - cond (eqb error 6) 0 1) (drop (at + 1) s)) []))
       → said s at (literalAs q at kind error code how bytes differs) ≡ placed s at (lexemeAs (suc (inner .len)) kind error code true (encoded read) value)
-  unfolding bodyPlaced
+  unfolding said placed bodyPlaced
   literal-said q e kind error code how value bytes differs v n d =
       let r = chars (drop at s) in
-      let y = lexemeAs (suc (inner .len)) kind error code true (encoded read) value in
       let one = add-one (inner .len) in
       rw e
-      (right-said s at _ y
+      (alike
       (record {
         lexeme =
             λ i. record {

@@ -1,54 +1,32 @@
--- An answer says what a lexeme is at its place: field by field.
-use Prim.Native.Nat.{ℕ, zero, suc, _+_, _*_, _<_, _-_}
+-- What an answer says is compared with a lexeme at its place field by field.
+use Prim.Native.Nat.{ℕ, zero, suc, _+_, _*_, _<_}
 use mathlib.Core.Path.{_≡_, refl, sym}
 use mathlib.Core.Bool.{Bool, true, false, not, _||_, true≢false}
 use mathlib.Core.List.{List, [], _∷_}
 use native.Mathlib.Omega.{arith}
 use native.Mathlib.Nat.{add-zero, sub-self, not-suc-le-zero}
 use lib.Dec.{eqb}
-use lib.ListN.{length, take, drop}
+use lib.ListN.{length}
 use borrow.Author.Tests.{ne-eqb}
 use Rattle.basics.specs.Same.{same}
 use Rattle.basics.proofs.Lists.{same-refl}
-use Rattle.utf8.specs.declared.Char.{Char}
-use Rattle.utf8.specs.Chars.{chars, widths, isStray}
-use Rattle.bodies.specs.Body.{isLf, count}
-use Rattle.lexer.specs.declared.lexed.Lexed.{Lexed}
-use Rattle.lexer.specs.Lexeme.{Lexeme, insertedSemicolon}
+use Rattle.lexer.specs.Lexeme.{insertedSemicolon}
 use Rattle.lexer.specs.Made.{insertedAt}
-use Rattle.lexer.specs.Placed.{textOf, valueOf, textDiffersIn, valueRead, placed, lengthOf, said}
+use Rattle.lexer.specs.Placed.{Placed, textDiffersIn, placed, lengthOf, said}
 
--- the lexeme that an answer tells, at its place of a source
-abbrev pub told : List ℕ → ℕ → Lexed → Lexeme
-told s at x =
-    record {
-      skipped = 0;
-      len = x .chars;
-      kind = x .kind;
-      inserted = x .inserted;
-      text = textOf (x .text) (take (x .chars) (chars (drop at s))) (take (x .end - at) (drop at s));
-      value = valueOf (x .value) (chars (drop (at + 1) s));
-      code = x .code;
-      error = x .error;
-      mark = x .mark;
-    }
+-- they are alike if each field is
+pub record Alike (p q : Placed) : Type 0 where
+  pub lexeme : p .lexeme ≡ q .lexeme
+  pub end : p .end ≡ q .end
+  pub lfs : p .lfs ≡ q .lfs
+  pub strays : p .strays ≡ q .strays
+  pub textLength : p .textLength ≡ q .textLength
+  pub valueLength : p .valueLength ≡ q .valueLength
+  pub textDiffers : p .textDiffers ≡ q .textDiffers
+  pub valueDiffers : p .valueDiffers ≡ q .valueDiffers
 
--- an answer is right if each field is, for the lexeme's characters cs and their bytes
-pub record Right (s : List ℕ) (at : ℕ) (x : Lexed) (y : Lexeme) (cs : List Char) (bytes : List ℕ) : Type 0 where
-  pub lexeme : told s at x ≡ y
-  pub end : x .end ≡ at + widths cs
-  pub lfs : x .lfs ≡ count isLf cs
-  pub strays : x .strays ≡ count isStray cs
-  pub textLength : lengthOf (x .«text_bytes») (x .strays) (x .«text_differs») ≡ length (y .text)
-  pub valueLength : lengthOf (x .«value_bytes») (x .strays) (x .«value_differs») ≡ length (y .value)
-  pub textDiffers : x .«text_differs» ≡ textDiffersIn (y .text) bytes
-  pub valueDiffers : x .«value_differs» ≡ not (same (y .value) (valueRead y bytes))
-
-pub right-said : (s : List ℕ) (at : ℕ) (x : Lexed) (y : Lexeme)
-    → Right s at x y (take (y .len) (chars (drop at s))) (take (widths (take (y .len) (chars (drop at s)))) (drop at s))
-    → said s at x ≡ placed s at y
-unfolding said placed
-right-said s at x y h =
+pub alike : {p q : Placed} → Alike p q → p ≡ q
+alike h =
     λ i. record {
       lexeme = h .lexeme i;
       end = h .end i;
@@ -87,9 +65,9 @@ text-some (b ∷ text) bytes h = refl
 
 -- an inserted semicolon reads nothing
 pub semicolon-said : (s : List ℕ) (at : ℕ) → said s at (insertedAt at) ≡ placed s at insertedSemicolon
-unfolding same
+unfolding said placed same
 semicolon-said s at =
-    right-said s at (insertedAt at) insertedSemicolon
+    alike
     (record {
       lexeme = rw (sub-self at);
       end = sym (add-zero at);

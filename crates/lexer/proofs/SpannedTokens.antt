@@ -29,7 +29,7 @@ use Rattle.lexer.specs.Quotes.{rawOf, lexRaw}
 use Rattle.lexer.specs.Comments.{lineComment, generalComment, comment, lexComment}
 use Rattle.lexer.specs.Made.{insertedAt}
 use Rattle.lexer.specs.Placed.{textOf, valueOf, textDiffersIn, lengthOf, said, placed}
-use Rattle.lexer.proofs.Said.{right-said, exact-with-strays, text-some, semicolon-said}
+use Rattle.lexer.proofs.Said.{alike, exact-with-strays, text-some, semicolon-said}
 use Rattle.lexer.proofs.Opened.{lexemeAs, Opened, opened-raw, opened-comment, open-chars, comment-chars, inside-token}
 
 -- a token by its body, with what the code sets itself
@@ -110,13 +110,13 @@ module _ (s : List ℕ) (at n : ℕ) (o : Opened s at n) (sp : Span) where
       → differs ≡ textDiffersIn text (take (widths read) (drop at s))
       → other ≡ not (same value (cond (eqb kind STRING) (take (length (take (widths read) (drop at s)) - cond (eqb error 6) 1 2) (drop 1 (take (widths read) (drop at s)))) []))
       → said s at (bodyAs b n kind error mark how way bytes inside differs other) ≡ placed s at (lexemeAs (n + sp .len) kind error 0 mark text value)
-  unfolding bodyOf
+  unfolding said placed bodyOf
   span-said b e kind error mark how way text value bytes inside differs other t v f g h k =
       let r = chars (drop at s) in
       let m : sp .len + n ≡ n + sp .len = omega arith in
       let u : (all : List ℕ) → textOf how (take (sp .len + n) r) all ≡ text = λ all. ap (λ l. textOf how (take l r) all) m ∙ t all in
       rw e
-      (right-said s at _ (lexemeAs (n + sp .len) kind error 0 mark text value)
+      (alike
       (record {
         lexeme =
             λ i. record {

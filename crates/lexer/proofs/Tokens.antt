@@ -6,12 +6,13 @@ use mathlib.Core.List.{List, [], _∷_, _++_, append-nil}
 use mathlib.Core.Logic.{_≢_, ⊎-elim}
 use native.Mathlib.Omega.{arith}
 use native.Mathlib.Nat.{add-zero}
-use lib.Dec.{T, leb, ltb, eqb, lit<}
+use lib.Dec.{T, ltb, eqb, lit<}
 use lib.ListN.{length, getD, take, drop, length-drop}
 use lib.Seq.{length-take-le, take-all}
 use borrow.Author.Tests.{ne-eqb, eq-eqb, eqb-true, ltb-true}
 use Rattle.basics.specs.Same.{same}
-use Rattle.basics.proofs.Choice.{cond-ind, either, and-left, and-right, and-split, true-of}
+use Rattle.basics.proofs.Choice.{either, and-left, and-right, and-split, true-of}
+use Rattle.basics.proofs.Every.{each}
 use Rattle.basics.proofs.Lists.{same-length}
 use Rattle.utf8.specs.declared.Char.{Char}
 use Rattle.utf8.specs.Chars.{ended, firstChar, charAt, chars, widths, isStray, encode, encoded}
@@ -20,13 +21,13 @@ use Rattle.utf8.proofs.Places.{ascii-only, code-there}
 use Rattle.utf8.proofs.Runs.{run-bound, run-passes, run-no-feed}
 use Rattle.utf8.proofs.Encoding.{first-coded}
 use Rattle.token.specs.Kinds.{ILLEGAL, IDENT, STRING}
-use Rattle.token.specs.Table.{Row, operators, identToken}
+use Rattle.token.specs.Table.{operators, identToken}
 use Rattle.words.specs.Word.{isWord, wordLen}
 use Rattle.words.proofs.Words.{word-high, word-run, feed-no-word}
 use Rattle.quotes.proofs.Places.{stray-there}
 use Rattle.operators.specs.declared.Operator.{Operator}
-use Rattle.operators.specs.Longest.{begins, longest, operatorOf}
-use Rattle.operators.proofs.Bounds.{operator-bound}
+use Rattle.operators.specs.Longest.{begins, operatorOf}
+use Rattle.operators.proofs.Bounds.{operator-bound, longest-ind}
 use Rattle.lexer.specs.declared.lexed.Text.the-variants.{Empty, AsRead}
 use Rattle.lexer.specs.declared.lexed.Value.the-variants.{Empty as NoValue}
 use Rattle.lexer.specs.declared.lexed.Lexed.{Lexed}
@@ -36,7 +37,7 @@ use Rattle.lexer.specs.Lex.{lexIllegal, lexOperator}
 use Rattle.lexer.specs.Made.{madeAt, shownAt}
 use Rattle.lexer.specs.Placed.{textDiffersIn, placed, said}
 use Rattle.lexer.proofs.Known.{word-no-string, operator-no-string}
-use Rattle.lexer.proofs.Said.{right-said, exact-length, text-same, text-some}
+use Rattle.lexer.proofs.Said.{alike, exact-length, text-same, text-some}
 use Rattle.lexer.proofs.Ascii.{Ascii, ascii-none, ascii-facts}
 
 -- ---- tokens of n ASCII characters
@@ -45,10 +46,10 @@ module _ (s : List ℕ) (at end n kind : ℕ) (mark : Bool) (a : Ascii n (chars 
   read = omega (arith, e)
 
   pub bare-said : said s at (madeAt kind at end mark Empty NoValue) ≡ placed s at (bare kind n mark)
-  unfolding same
+  unfolding said placed same
   bare-said =
       let f = ascii-facts n s at a in
-      right-said s at (madeAt kind at end mark Empty NoValue) (bare kind n mark)
+      alike
       (record {
         lexeme = rw read;
         end = rw (f .width) e;
@@ -61,11 +62,11 @@ module _ (s : List ℕ) (at end n kind : ℕ) (mark : Bool) (a : Ascii n (chars 
       })
 
   pub shown-said : said s at (shownAt kind at end mark) ≡ placed s at (shown kind n (encoded (take n (chars (drop at s)))) 0 mark)
-  unfolding same
+  unfolding said placed same
   shown-said =
       let f = ascii-facts n s at a in
       let text = encoded (take n (chars (drop at s))) in
-      right-said s at (shownAt kind at end mark) (shown kind n text 0 mark)
+      alike
       (record {
         lexeme = rw read;
         end = rw (f .width) e;
@@ -122,8 +123,7 @@ module _ (s : List ℕ) (at end kind : ℕ) (e : end ≡ at + wordLen (chars (dr
 
 -- ---- operators: their spellings are ASCII without a line feed
 abbrev plain : List ℕ → Bool
-plain [] = true
-plain (x ∷ xs) = ltb x 0x80 && (not (eqb x 10) && plain xs)
+plain = each (λ x. ltb x 0x80 && not (eqb x 10))
 
 begins-plain : (xs : List ℕ) (r : List Char) → T (plain xs) → begins xs r ≡ true → Ascii (length xs) r
 unfolding begins
@@ -132,33 +132,19 @@ begins-plain (x ∷ xs) [] t b = absurd (false≢true b)
 begins-plain (x ∷ xs) (c ∷ r) t b =
     let q = and-split (eqb (c .code) x) (begins xs r) b in
     let here = eqb-true (c .code) x (q .0) in
-    let low = ltb-true x 0x80 (true-of _ (and-left (ltb x 0x80) _ t)) in
-    let more = and-right (ltb x 0x80) _ t in
-    let rest = begins-plain xs r (and-right (not (eqb x 10)) (plain xs) more) (q .1) in
-    (omega (arith, rest .0), go here low (and-left (not (eqb x 10)) (plain xs) more) (rest .1))
+    let first = and-left (ltb x 0x80 && not (eqb x 10)) (plain xs) t in
+    let low = ltb-true x 0x80 (true-of _ (and-left (ltb x 0x80) _ first)) in
+    let rest = begins-plain xs r (and-right (ltb x 0x80 && not (eqb x 10)) (plain xs) t) (q .1) in
+    (omega (arith, rest .0), go here low (and-right (ltb x 0x80) _ first) (rest .1))
   where
     go : c .code ≡ x → x < 0x80 → T (not (eqb x 10)) → ((i : ℕ) → i < length xs → (getD r i ended .code < 0x80) × (getD r i ended .code ≢ 10))
         → (i : ℕ) → i < suc (length xs) → (getD (c ∷ r) i ended .code < 0x80) × (getD (c ∷ r) i ended .code ≢ 10)
     go e l n ih zero h = (omega (arith, e, l), λ z. let w = rw (eq-eqb x 10 (sym e ∙ z)) at n in w)
     go e l n ih (suc i) h = ih i (omega arith)
 
-abbrev allPlain : List Row → Bool
-allPlain [] = true
-allPlain (row ∷ rows) = plain (row .name) && allPlain rows
-
-longest-plain : (rows : List Row) (r : List Char) → T (allPlain rows) → Ascii (longest rows r .len) r
-unfolding longest
-longest-plain [] r t = ascii-none r
-longest-plain (row ∷ rows) r t =
-    let P : Operator → Type 0 = λ x. Ascii (x .len) r in
-    let rest = longest-plain rows r (and-right (plain (row .name)) (allPlain rows) t) in
-    cond-ind P (begins (row .name) r) _ _
-    (λ b. cond-ind P (leb (longest rows r .len) (length (row .name))) _ _ (λ _. begins-plain (row .name) r (and-left (plain (row .name)) (allPlain rows) t) b) (λ _. rest))
-    (λ _. rest)
-
 operator-plain : (r : List Char) → Ascii (operatorOf r .len) r
 unfolding operators
-operator-plain r = longest-plain operators r tt
+operator-plain r = longest-ind (λ x. Ascii (x .len) r) (λ row. plain (row .name)) r (ascii-none r) (λ row t. begins-plain (row .name) r t) operators tt
 
 module _ (s : List ℕ) (at : ℕ) (mark : Bool) (o : Operator) (is : o ≡ operatorOf (chars (drop at s))) where
   pub no-operator : o .kind ≡ ILLEGAL → lexIllegal mark 1 (chars (drop at s)) ≡ lexOperator mark (chars (drop at s))
@@ -218,11 +204,11 @@ module _ (s : List ℕ) (at : ℕ) (h : at < length s) where
 
   module _ (mark : Bool) (no-lf : eqb (getD s at 0) 10 ≡ false) where
     first-said : said s at (illegalAt at (firstChar (drop at s) .width) mark (isStray (firstChar (drop at s)))) ≡ placed s at (lexIllegal mark 1 (chars (drop at s)))
-    unfolding same
+    unfolding said placed same
     first-said =
         let f = firstChar (drop at s) in
         let e = chars-at s at h in
-        right-said s at (illegalAt at (f .width) mark (isStray f)) (lexIllegal mark 1 (chars (drop at s)))
+        alike
         (record {
           lexeme = refl;
           end = rw e (omega arith);

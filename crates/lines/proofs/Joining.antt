@@ -2,7 +2,7 @@
 use Prim.Native.Nat.{ℕ, suc, _+_, _-_, _≤_, _<_}
 use mathlib.Core.Path.{_≡_, refl, sym, ap, _∙_}
 use mathlib.Core.Bool.{Bool, true, false, cond, _&&_}
-use mathlib.Core.List.{List, [], _∷_, _++_, map, append-assoc}
+use mathlib.Core.List.{List, [], _∷_, _++_, map, append-assoc, map-append}
 use native.Mathlib.Nat.{add-zero, zero-add, add-suc, not-suc-le-zero}
 use native.Mathlib.Omega.{arith}
 use lib.Dec.{eqb, ltb}
@@ -22,10 +22,6 @@ use Rattle.lines.specs.Joined.{startsOf, over}
 use Rattle.lines.proofs.Reading.{read-append, read-new, read-feed, read-any-size}
 use Rattle.lines.proofs.Counts.{starts-last, starts-count-end}
 use Rattle.lines.proofs.Kept.{read-last, read-at-most, read-from-zero}
-
-map-append : {A B : Type 0} (f : A → B) (s t : List A) → map f (s ++ t) ≡ map f s ++ map f t
-map-append f [] t = refl
-map-append {B = B} f (x ∷ s) t = ap (λ (r : List B). f x ∷ r) (map-append f s t)
 
 -- starts that are above the offset count for no line
 line-before : (s t : List ℕ) (o : ℕ) → lineOf t o ≡ 0 → lineOf (s ++ t) o ≡ lineOf s o

@@ -1,6 +1,7 @@
 -- Writing and counting the starts: which characters give one, one step at a place of a text, and a table that is full.
 use Prim.Native.Nat.{ℕ, zero, suc, _+_, _-_, _≤_, _<_, min}
 use mathlib.Core.Path.{_≡_, refl, sym, ap, _∙_}
+use mathlib.Core.Bool.{and-false}
 use mathlib.Core.List.{List, [], _∷_}
 use native.Mathlib.Nat.{add-zero}
 use native.Mathlib.Numerals.{add-one}
@@ -10,7 +11,6 @@ use lib.Dec.{lit<}
 use lib.ListN.{length, getD, take, drop, set}
 use lib.Seq.{sets, set-out, take-nil, take-take}
 use borrow.Author.Tests.{lt-ltb, le-ltb, eq-eqb, ne-eqb}
-use Rattle.basics.proofs.Choice.{and-no}
 use Rattle.utf8.specs.declared.Char.{Char}
 use Rattle.utf8.specs.Chars.{charAt, chars}
 use Rattle.utf8.proofs.First.{chars-end, chars-ascii, there-chars}
@@ -36,7 +36,7 @@ counted-one n {ws = ws} e h = let s : n + suc (length ws) ≡ n + 1 + length ws 
 pub starts-past : (size o : ℕ) (cs : List Char) → size ≤ suc o → startsRead size o cs ≡ []
 unfolding startsRead
 starts-past size o [] h = refl
-starts-past size o (c ∷ cs) h = rw (le-ltb (suc o) size h, and-no) (starts-past size (suc o) cs (omega arith))
+starts-past size o (c ∷ cs) h = rw (le-ltb (suc o) size h, and-false) (starts-past size (suc o) cs (omega arith))
 
 -- the characters before the last
 pub starts-take : (size o k : ℕ) (cs : List Char) → size ≤ suc o + k → startsRead size o (take k cs) ≡ startsRead size o cs

@@ -11,7 +11,7 @@ use borrow.Author.Tests.{eqb-true, leb-true, leb-false}
 use Rattle.basics.specs.Between.{between}
 use Rattle.basics.specs.Same.{same}
 use Rattle.basics.proofs.Choice.{cond-ind, either, true-of, and-left, and-right, and-split}
-use Rattle.basics.proofs.Every.{every}
+use Rattle.basics.proofs.Every.{each, each-ind}
 use Rattle.basics.proofs.Lists.{same-true}
 use Rattle.utf8.specs.declared.Char.{Char}
 use Rattle.utf8.proofs.Ends.{Ends, ends-tail, ends-some}
@@ -20,18 +20,6 @@ use Rattle.token.specs.Table.{Row, operators}
 use Rattle.operators.specs.declared.Operator.{Operator}
 use Rattle.operators.specs.Longest.{begins, op, none, longest, operatorOf}
 
--- ---- what holds of no operator, and of each row that passes a test and that the characters begin with, holds of the longest
-longest-ind : (P : Operator → Type 0) (test : Row → Bool) (r : List Char) → P none
-    → ((row : Row) → T (test row) → begins (row .name) r ≡ true → P (op (row .kind) (length (row .name))))
-    → (rows : List Row) (i : ℕ) → T (every (λ _. test) i rows) → P (longest rows r)
-unfolding longest
-longest-ind P test r z f [] i t = z
-longest-ind P test r z f (row ∷ rows) i t =
-    let here = f row (and-left (test row) (every (λ _. test) (suc i) rows) t) in
-    let rest = longest-ind P test r z f rows (suc i) (and-right (test row) (every (λ _. test) (suc i) rows) t) in
-    cond-ind P (begins (row .name) r) _ _
-    (λ e. cond-ind P (leb (longest rows r .len) (length (row .name))) _ _ (λ _. here e) (λ _. rest)) (λ _. rest)
-
 -- ---- no longer than the text
 begins-bound : (xs : List ℕ) (r : List Char) → begins xs r ≡ true → length xs ≤ length r
 unfolding begins
@@ -39,14 +27,21 @@ begins-bound [] r e = omega arith
 begins-bound (x ∷ xs) [] e = absurd (false≢true e)
 begins-bound (x ∷ xs) (c ∷ r) e = omega (arith, begins-bound xs r (and-split (eqb (c .code) x) (begins xs r) e .1))
 
+-- what holds of no operator, and of each row that the characters begin with, holds of the longest; f is a test that the rows pass
+pub longest-ind : (P : Operator → Type 0) (f : Row → Bool) (r : List Char) → P none
+    → ((row : Row) → T (f row) → begins (row .name) r ≡ true → P (op (row .kind) (length (row .name)))) → (rows : List Row) → T (each f rows) → P (longest rows r)
+unfolding longest
+longest-ind P f r base one =
+    each-ind f (λ rows. P (longest rows r)) base (λ row rows t rest.
+    cond-ind P (begins (row .name) r) _ _ (λ b. cond-ind P (leb (longest rows r .len) (length (row .name))) _ _ (λ _. one row t b) (λ _. rest)) (λ _. rest))
+
 pub operator-bound : (r : List Char) → operatorOf r .len ≤ length r
 unfolding operators
-operator-bound r = longest-ind (λ x. x .len ≤ length r) (λ _. true) r (omega arith) (λ row _ e. begins-bound (row .name) r e) operators 0 tt
+operator-bound r = longest-ind (λ x. x .len ≤ length r) (λ _. true) r (omega arith) (λ row _. begins-bound (row .name) r) operators tt
 
 -- ---- in a text that ends in a line feed
 abbrev noFeed : List ℕ → Bool
-noFeed [] = true
-noFeed (x ∷ xs) = not (eqb x 10) && noFeed xs
+noFeed = each (λ x. not (eqb x 10))
 
 begins-local : (xs : List ℕ) (r t : List Char) → T (noFeed xs) → Ends r → (begins xs (r ++ t) ≡ begins xs r) × (begins xs r ≡ true → length xs < length r)
 unfolding begins
@@ -62,26 +57,20 @@ begins-local (x ∷ xs) (c ∷ r) t n h = go (eqb (c .code) x) refl (begins-loca
     go true e ih = let q = ih (ends-tail c r h (feed e)) in (q .0, λ b. omega (arith, q .1 b))
     go false e ih = (refl, λ b. absurd (false≢true b))
 
-abbrev feedless : Row → Bool
-feedless row = noFeed (row .name)
-
-longest-local : (rows : List Row) (i : ℕ) (r t : List Char) → T (every (λ _. feedless) i rows) → Ends r → longest rows (r ++ t) ≡ longest rows r
-unfolding longest
-longest-local [] i r t n h = refl
-longest-local (row ∷ rows) i r t n h =
-    rw (
-      begins-local (row .name) r t (and-left (feedless row) (every (λ _. feedless) (suc i) rows) n) h .0,
-      longest-local rows (suc i) r t (and-right (feedless row) (every (λ _. feedless) (suc i) rows) n) h,
-    )
-
 pub operator-local : (r t : List Char) → Ends r → (operatorOf (r ++ t) ≡ operatorOf r) × (operatorOf r .len < length r)
-unfolding operators
+unfolding operators longest
 operator-local r t h = (
-  longest-local operators 0 r t tt h,
-  longest-ind (λ x. x .len < length r) feedless r (ends-some r h) (λ row n e. begins-local (row .name) r [] n h .1 e) operators 0 tt,
+  each-ind (λ row. noFeed (row .name)) (λ rows. longest rows (r ++ t) ≡ longest rows r) refl (λ row rows n same. rw (begins-local (row .name) r t n h .0, same)) operators tt,
+  longest-ind (λ x. x .len < length r) (λ row. noFeed (row .name)) r (ends-some r h) (λ row n. begins-local (row .name) r t n h .1) operators tt,
 )
 
 -- ---- no operator is of kind ILLEGAL or of no characters
+abbrev some : Row → Bool
+some row = not (eqb (row .kind) ILLEGAL) && not (eqb (length (row .name)) 0)
+
+abbrev Agree : Operator → Type 0
+Agree x = eqb (x .kind) ILLEGAL ≡ eqb (x .len) 0
+
 both-false : (a b : Bool) → T (not a && not b) → a ≡ b
 both-false true b t = absurd t
 both-false false true t = absurd t
@@ -90,23 +79,21 @@ both-false false false t = refl
 -- the kind is ILLEGAL just where there are no characters
 pub operator-none : (r : List Char) → eqb (operatorOf r .kind) ILLEGAL ≡ eqb (operatorOf r .len) 0
 unfolding operators
-operator-none r =
-    longest-ind (λ x. eqb (x .kind) ILLEGAL ≡ eqb (x .len) 0) (λ row. not (eqb (row .kind) ILLEGAL) && not (eqb (length (row .name)) 0)) r
-    refl (λ row t _. both-false (eqb (row .kind) ILLEGAL) (eqb (length (row .name)) 0) t) operators 0 tt
+operator-none r = longest-ind Agree some r refl (λ row t _. both-false (eqb (row .kind) ILLEGAL) (eqb (length (row .name)) 0) t) operators tt
 
 -- any other is from ADD to COLON
 pub operator-proper : (r : List Char) → (operatorOf r .len ≡ 0) ⊎ (between ADD (operatorOf r .kind) COLON ≡ true)
 unfolding operators
 operator-proper r =
     longest-ind (λ x. (x .len ≡ 0) ⊎ (between ADD (x .kind) COLON ≡ true)) (λ row. between ADD (row .kind) COLON) r
-    (inl refl) (λ row t _. inr (true-of _ t)) operators 0 tt
+    (inl refl) (λ row t _. inr (true-of _ t)) operators tt
 
 -- none is of more than three characters
 pub operator-short : (r : List Char) → operatorOf r .len ≤ 3
 unfolding operators
 operator-short r =
     longest-ind (λ x. x .len ≤ 3) (λ row. leb (length (row .name)) 3) r
-    (omega arith) (λ row t _. leb-true _ _ (true-of _ t)) operators 0 tt
+    (omega arith) (λ row t _. leb-true _ _ (true-of _ t)) operators tt
 
 -- ---- a row has this spelling
 abbrev pub spells : List ℕ → List Row → Bool

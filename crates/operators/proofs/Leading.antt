@@ -10,6 +10,7 @@ use lib.Dec.{T, eqb, ltb}
 use lib.ListN.{length, getD, drop, List·getD-eq-default}
 use borrow.Author.Tests.{ne-eqb, eqb-true, ltb-true}
 use Rattle.basics.proofs.Choice.{either, and-left, and-right, true-of}
+use Rattle.basics.proofs.Every.{each, each-ind}
 use Rattle.utf8.specs.Chars.{chars}
 use Rattle.utf8.proofs.First.{chars-at, chars-end, chars-ascii}
 use Rattle.utf8.proofs.Places.{code-there}
@@ -28,8 +29,7 @@ starts [] s p = true
 starts (x ∷ xs) s p = eqb (getD s p 0) x && starts xs s (p + 1)
 
 abbrev low : List ℕ → Bool
-low [] = true
-low (x ∷ xs) = (ltb 0 x && ltb x 128) && low xs
+low = each (λ x. ltb 0 x && ltb x 128)
 
 begins-bytes : (xs s : List ℕ) (p : ℕ) → T (low xs) → begins xs (chars (drop p s)) ≡ starts xs s p
 unfolding begins
@@ -47,14 +47,13 @@ begins-bytes (x ∷ xs) s p l =
     ]
 
 abbrev lows : List Row → Bool
-lows [] = true
-lows (row ∷ rows) = low (row .name) && lows rows
+lows = each (λ row. low (row .name))
 
-longest-bytes : (rows : List Row) (s : List ℕ) (p : ℕ) → T (lows rows) → longest rows (chars (drop p s)) ≡ best (λ n. starts n s p) rows
+longest-bytes : (s : List ℕ) (p : ℕ) (rows : List Row) → T (lows rows) → longest rows (chars (drop p s)) ≡ best (λ n. starts n s p) rows
 unfolding longest best
-longest-bytes [] s p l = refl
-longest-bytes (row ∷ rows) s p l =
-    rw (begins-bytes (row .name) s p (and-left (low (row .name)) (lows rows) l), longest-bytes rows s p (and-right (low (row .name)) (lows rows) l))
+longest-bytes s p =
+    each-ind (λ row. low (row .name)) (λ rows. longest rows (chars (drop p s)) ≡ best (λ n. starts n s p) rows) refl
+    (λ row rows l same. rw (begins-bytes (row .name) s p l, same))
 
 -- ---- the rows whose spelling starts with a code
 abbrev pub leads : ℕ → List ℕ → Bool
@@ -79,4 +78,4 @@ best-among (row ∷ rows) s p =
 -- the table, by the bytes
 pub table-bytes : (s : List ℕ) (p : ℕ) → operatorOf (chars (drop p s)) ≡ best (λ n. starts n s p) operators
 unfolding operators
-table-bytes s p = longest-bytes operators s p tt
+table-bytes s p = longest-bytes s p operators tt

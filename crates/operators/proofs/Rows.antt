@@ -1,12 +1,13 @@
 -- The operator at a place by the byte there, the rows of the table that start with it, and the next bytes.
 use Prim.Native.Nat.{ℕ, _+_, _≤_}
 use mathlib.Core.Path.{_≡_, refl, sym, ap, _∙_}
-use mathlib.Core.Bool.{Bool, true, false, cond, _&&_, _||_, false≢true}
+use mathlib.Core.Bool.{Bool, true, false, cond, _&&_, _||_, false≢true, and-true}
 use mathlib.Core.List.{List, [], _∷_}
 use lib.Dec.{T, eqb}
 use lib.ListN.{length, getD, drop}
 use borrow.Author.Tests.{eq-eqb, ne-eqb}
-use Rattle.basics.proofs.Choice.{and-left, and-right, true-of}
+use Rattle.basics.proofs.Choice.{true-of}
+use Rattle.basics.proofs.Every.{each, each-ind}
 use Rattle.utf8.specs.Chars.{chars}
 use Rattle.utf8.proofs.First.{chars-end}
 use Rattle.token.specs.Kinds.{LSS, LEQ, SHL, SHL-ASSIGN, ARROW, AND, AND-ASSIGN, AND-NOT, AND-NOT-ASSIGN, LAND, GTR, GEQ, SHR, SHR-ASSIGN, PERIOD, ELLIPSIS}
@@ -102,19 +103,15 @@ module _ (f : List ℕ → Bool) where
   pick-dots k l a x v false e g = rw (e, g)
 
 -- ---- the tests of the spellings that start with the byte at a place
-and-yes : (b : Bool) → b && true ≡ b
-and-yes true = refl
-and-yes false = refl
-
 module _ (s : List ℕ) (p a : ℕ) (e : getD s p 0 ≡ a) where
   starts-one : starts (a ∷ []) s p ≡ true
   starts-one = rw (eq-eqb _ _ e)
 
   starts-two : (x : ℕ) → starts (a ∷ x ∷ []) s p ≡ eqb (getD s (p + 1) 0) x
-  starts-two x = rw (eq-eqb _ _ e, and-yes (eqb (getD s (p + 1) 0) x))
+  starts-two x = rw (eq-eqb _ _ e, and-true (eqb (getD s (p + 1) 0) x))
 
   starts-three : (x y : ℕ) → starts (a ∷ x ∷ y ∷ []) s p ≡ eqb (getD s (p + 1) 0) x && eqb (getD s (p + 1 + 1) 0) y
-  starts-three x y = rw (eq-eqb _ _ e, and-yes (eqb (getD s (p + 1 + 1) 0) y))
+  starts-three x y = rw (eq-eqb _ _ e, and-true (eqb (getD s (p + 1 + 1) 0) y))
 
   first-rows : (rows : List Row) → among a operators ≡ rows → operatorOf (chars (drop p s)) ≡ best (λ n. starts n s p) rows
   first-rows rows w = table-bytes s p ∙ best-among operators s p ∙ ap (best (λ n. starts n s p)) (ap (λ x. among x operators) e ∙ w)
@@ -185,18 +182,12 @@ abbrev listed : List ℕ → List ℕ → Bool
 listed ks [] = false
 listed ks (x ∷ xs) = elem x ks
 
-abbrev allListed : List ℕ → List Row → Bool
-allListed ks [] = true
-allListed ks (row ∷ rows) = listed ks (row .name) && allListed ks rows
-
 no-leads : (a : ℕ) (ks xs : List ℕ) → elem a ks ≡ false → T (listed ks xs) → leads a xs ≡ false
 no-leads a ks [] n t = absurd t
 no-leads a ks (x ∷ xs) n t = ne-eqb a x (λ e. false≢true (sym n ∙ ap (λ y. elem y ks) e ∙ true-of (elem x ks) t))
 
-no-rows : (a : ℕ) (ks : List ℕ) (rows : List Row) → elem a ks ≡ false → T (allListed ks rows) → among a rows ≡ []
-no-rows a ks [] n t = refl
-no-rows a ks (row ∷ rows) n t =
-    rw (no-leads a ks (row .name) n (and-left (listed ks (row .name)) (allListed ks rows) t)) (no-rows a ks rows n (and-right (listed ks (row .name)) (allListed ks rows) t))
+no-rows : (a : ℕ) (ks : List ℕ) → elem a ks ≡ false → (rows : List Row) → T (each (λ row. listed ks (row .name)) rows) → among a rows ≡ []
+no-rows a ks n = each-ind (λ row. listed ks (row .name)) (λ rows. among a rows ≡ []) refl (λ row rows t same. rw (no-leads a ks (row .name) n t) same)
 
 -- the first codes of the table, the code's last arm first
 abbrev pub firsts : List ℕ
@@ -204,4 +195,4 @@ firsts = 59 ∷ 125 ∷ 93 ∷ 41 ∷ 44 ∷ 123 ∷ 91 ∷ 40 ∷ 46 ∷ 38 ∷
 
 pub none-is : (s : List ℕ) (p : ℕ) → NotIn (getD s p 0) firsts → none ≡ operatorOf (chars (drop p s))
 unfolding operators best
-none-is s p n = sym (first-rows s p (getD s p 0) refl [] (no-rows (getD s p 0) firsts operators (not-elem (getD s p 0) firsts n) tt))
+none-is s p n = sym (first-rows s p (getD s p 0) refl [] (no-rows (getD s p 0) firsts (not-elem (getD s p 0) firsts n) operators tt))

@@ -1,7 +1,7 @@
 -- What adding a line start comes to, case by case, and what it keeps.
 use Prim.Native.Nat.{ℕ, _+_, _≤_, _<_}
 use mathlib.Core.Path.{_≡_, refl, _∙_}
-use mathlib.Core.Bool.{true, false, cond}
+use mathlib.Core.Bool.{true, false, cond, and-false}
 use mathlib.Core.List.{List, [], _∷_, _++_}
 use mathlib.Core.Logic.{⊎-elim}
 use native.Mathlib.Numerals.{add-one}
@@ -10,7 +10,7 @@ use lib.Dec.{eqb}
 use lib.ListN.{length, set, take, length-set}
 use lib.Seq.{take-suc-set, take-set-le, getD-set-other}
 use borrow.Author.Tests.{lt-ltb, le-ltb, eq-eqb, ne-eqb, ltb-true, eqb-true, eqb-false}
-use Rattle.basics.proofs.Choice.{either, and-no, and-split}
+use Rattle.basics.proofs.Choice.{either, and-split}
 use Rattle.refusal.specs.Outcome.{refused, gave}
 use Rattle.refusal.proofs.Outcomes.{refused-gave}
 use Rattle.position.specs.declared.File.{File}
@@ -28,7 +28,7 @@ module _ (f : File) (table : List ℕ) (o : ℕ) where
 
   pub starting-past : f .size ≤ o → starting f table o ≡ false
   unfolding starting
-  starting-past h = rw (le-ltb _ _ h, and-no)
+  starting-past h = rw (le-ltb _ _ h, and-false)
 
   pub starting-here : lineStart table (f .lines) < o → o < f .size → starting f table o ≡ true
   unfolding starting

@@ -1,7 +1,6 @@
 -- The characters that an escape reads: they are there, and each is the quote or lies between 0 and z.
 use Prim.Native.Nat.{ℕ, zero, suc, _*_, _+_, _≤_, _<_, suc-le-suc}
-use mathlib.Core.Path.{_≡_, refl, sym, _∙_, subst}
-use mathlib.Core.Bool.{Bool, true, false, _&&_, true≢false}
+use mathlib.Core.Path.{_≡_, refl, sym, subst}
 use mathlib.Core.List.{List, [], _∷_}
 use mathlib.Core.Logic.{_⊎_, inl, inr, ⊎-elim}
 use native.Mathlib.Omega.{arith}
@@ -9,9 +8,10 @@ use native.Mathlib.Nat.{not-suc-le-zero, le-of-suc-le-suc}
 use native.Mathlib.Decide.{decLt}
 use lib.Dec.{T, eqb, ltb}
 use lib.ListN.{length, getD, take, drop}
-use borrow.Author.Tests.{eq-eqb, ne-eqb, eqb-true, ltb-true, lt-leb, le-leb}
+use borrow.Author.Tests.{eqb-true, eqb-false, ltb-true, lt-leb, le-leb}
 use Rattle.basics.specs.Between.{between}
-use Rattle.basics.proofs.Choice.{cond-ind, and-left, and-right, between-true, true-of}
+use Rattle.basics.proofs.Choice.{cond-ind, between-true, true-of}
+use Rattle.basics.proofs.Every.{each}
 use Rattle.utf8.specs.declared.Char.{Char}
 use Rattle.utf8.specs.Chars.{ended, chars, widths}
 use Rattle.utf8.proofs.Places.{ascii-widths}
@@ -20,6 +20,7 @@ use Rattle.quotes.specs.declared.numeral.Numeral.{Numeral}
 use Rattle.quotes.specs.declared.Escaped.{Escaped}
 use Rattle.quotes.specs.Numeral.{numeral}
 use Rattle.quotes.specs.Escape.{lookup, letters, letter, following, octalEscape, hexEscape, escapeOf}
+use Rattle.quotes.proofs.EscapeLaws.{lookup-ind}
 
 -- n characters stand at the head of a list, and P holds of the code of each
 abbrev pub Heads : (ℕ → Type 0) → ℕ → List Char → Type 0
@@ -64,16 +65,10 @@ digit-in : (c : ℕ) → digitVal c < 16 → (48 ≤ c) × (c ≤ 122)
 digit-in c d = within c (λ o. omega (arith, digit-out c o))
 
 -- a table of such characters gives nothing to others
-abbrev allInside : List (ℕ × ℕ) → Bool
-allInside [] = true
-allInside (row ∷ rows) = between 48 (row .0) 122 && allInside rows
-
-lookup-out : (rows : List (ℕ × ℕ)) → T (allInside rows) → (c : ℕ) → Out c → lookup c rows ≡ 0
-lookup-out [] t c o = refl
-lookup-out (row ∷ rows) t c o =
-    let key = between-true 48 (row .0) 122 (true-of _ (and-left (between 48 (row .0) 122) (allInside rows) t)) in
-    let rest = lookup-out rows (and-right (between 48 (row .0) 122) (allInside rows) t) c o in
-    rw (ne-eqb c (row .0) (apart c (row .0) (key .0) (key .1) o)) rest
+lookup-out : (rows : List (ℕ × ℕ)) → T (each (λ row. between 48 (row .0) 122) rows) → (c : ℕ) → Out c → lookup c rows ≡ 0
+lookup-out rows t c o =
+    lookup-ind (λ row. between 48 (row .0) 122) (λ n. n ≡ 0) c refl
+    (λ row i e. let key = between-true 48 (row .0) 122 (true-of _ i) in absurd (apart c (row .0) (key .0) (key .1) o e)) rows t
 
 letter-out : (c : ℕ) → Out c → letter c ≡ 0
 unfolding letter
@@ -82,10 +77,6 @@ letter-out = lookup-out letters tt
 following-out : (c : ℕ) → Out c → following c ≡ 0
 unfolding following
 following-out = lookup-out ((120, 2) ∷ (117, 4) ∷ (85, 8) ∷ []) tt
-
--- a test that fails
-pub not-so : (a b : ℕ) → eqb a b ≡ false → a ≡ b → ⊥
-not-so a b f e = true≢false (sym (eq-eqb a b e) ∙ f)
 
 -- ---- what holds of the quote and of all codes between 0 and z holds of what an escape reads
 module _ (P : ℕ → Type 0) (inside : (c : ℕ) → 48 ≤ c → c ≤ 122 → P c) where
@@ -102,7 +93,7 @@ module _ (P : ℕ → Type 0) (inside : (c : ℕ) → 48 ≤ c → c ≤ 122 →
   unfolding hexEscape
   hex-heads c r =
       cond-ind (λ (x : Escaped). Heads P (x .len) (c ∷ r)) (eqb (following (c .code)) 0) _ _ (λ _. tt)
-      (λ f. let g = within (c .code) (λ o. not-so _ _ f (following-out (c .code) o)) in (inside (c .code) (g .0) (g .1), numeral-heads 16 (following (c .code)) 0 r (omega arith)))
+      (λ f. let g = within (c .code) (λ o. eqb-false _ _ f (following-out (c .code) o)) in (inside (c .code) (g .0) (g .1), numeral-heads 16 (following (c .code)) 0 r (omega arith)))
 
   module _ (quote : ℕ) (at-quote : P quote) where
     pub escape-heads : (r : List Char) → Heads P (escapeOf quote r .len) r
@@ -114,7 +105,7 @@ module _ (P : ℕ → Type 0) (inside : (c : ℕ) → 48 ≤ c → c ≤ 122 →
         (λ q. (subst P (sym (eqb-true (c .code) quote q)) at-quote, tt))
         (λ _. cond-ind (λ (x : Escaped). Heads P (x .len) (c ∷ r)) (ltb (digitVal (c .code)) 8) _ _
         (λ _. numeral-heads 8 3 0 (c ∷ r) (omega arith)) (λ _. hex-heads c r)))
-        (λ l. let g = within (c .code) (λ o. not-so _ _ l (letter-out (c .code) o)) in (inside (c .code) (g .0) (g .1), tt))
+        (λ l. let g = within (c .code) (λ o. eqb-false _ _ l (letter-out (c .code) o)) in (inside (c .code) (g .0) (g .1), tt))
 
 -- an escape reads characters of the text
 pub escape-bound : (quote : ℕ) (r : List Char) → escapeOf quote r .len ≤ length r

@@ -7,7 +7,7 @@ use native.Mathlib.Omega.{arith}
 use native.Mathlib.Nat.{add-zero, zero-add, suc-add, le-of-suc-le-suc}
 use lib.Dec.{eqb}
 use lib.ListN.{length, getD}
-use borrow.Author.Tests.{eqb-true, le-ltb}
+use borrow.Author.Tests.{eqb-true, eqb-false, le-ltb}
 use Rattle.basics.proofs.Choice.{cond-ind}
 use Rattle.utf8.specs.declared.Char.{Char}
 use Rattle.utf8.specs.Chars.{ended}
@@ -18,7 +18,7 @@ use Rattle.quotes.specs.declared.Given.the-variants.{Value, Bad}
 use Rattle.quotes.specs.Numeral.{numeral}
 use Rattle.quotes.specs.Escape.{letter, following, octalEscape, hexEscape, escapeOf}
 use Rattle.quotes.specs.Body.{Body, escape, bodyFrom, body}
-use Rattle.quotes.proofs.Heads.{Heads, not-so, heads-bound, heads-at, escape-heads}
+use Rattle.quotes.proofs.Heads.{Heads, heads-bound, heads-at, escape-heads}
 
 -- ---- what holds of the quote and of all codes but LF holds of what a body reads
 module _ (P : ℕ → Type 0) (all : (c : ℕ) → (c ≡ 10 → ⊥) → P c) (quote : ℕ) (at-quote : P quote) where
@@ -39,8 +39,8 @@ module _ (P : ℕ → Type 0) (all : (c : ℕ) → (c ≡ 10 → ⊥) → P c) (
       (cond-ind (λ (b : Body). Heads P (b .len) (c ∷ r)) (eqb (c .code) quote) _ _ (λ e. (subst P (sym (eqb-true (c .code) quote e)) at-quote, tt))
       (λ _. cond-ind (λ (b : Body). Heads P (b .len) (c ∷ r)) (eqb (c .code) 10) _ _ (λ _. tt)
       (λ f. cond-ind (λ (b : Body). Heads P (b .len) (c ∷ r)) (eqb (c .code) 92) _ _
-      (λ _. after-escape c r n (escapeOf quote r .given) (bodyFrom quote n r) (all (c .code) (not-so (c .code) 10 f)) (in-escape r) (body-heads r n (in-escape r)))
-      (λ _. (all (c .code) (not-so (c .code) 10 f), rw (zero-add (bodyFrom quote 0 r .len)) at (body-heads r 0 tt))))))
+      (λ _. after-escape c r n (escapeOf quote r .given) (bodyFrom quote n r) (all (c .code) (eqb-false (c .code) 10 f)) (in-escape r) (body-heads r n (in-escape r)))
+      (λ _. (all (c .code) (eqb-false (c .code) 10 f), rw (zero-add (bodyFrom quote 0 r .len)) at (body-heads r 0 tt))))))
 
   whole : (r : List Char) → Heads P (body quote r .len) r
   whole r = rw (zero-add (body quote r .len)) at (body-heads r 0 tt)

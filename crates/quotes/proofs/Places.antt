@@ -1,7 +1,7 @@
 -- Laws of a body at a place of a text: what was read of it and what is left make the whole.
 use Prim.Native.Nat.{ℕ, suc, _+_, _*_, _-_, _≤_, _<_}
 use mathlib.Core.Path.{_≡_, refl, sym, _∙_}
-use mathlib.Core.Bool.{Bool, true, false, cond, _||_}
+use mathlib.Core.Bool.{Bool, true, false, cond, _||_, or-true, or-false}
 use mathlib.Core.List.{List, [], _∷_}
 use mathlib.Core.Logic.{⊎-elim}
 use native.Mathlib.Omega.{arith}
@@ -47,14 +47,6 @@ pub joined-start : (at : ℕ) (x : Quoted)
     → x ≡ joined (nothing at) x
 unfolding joined
 joined-start at x = rw (zero-add (x .chars), zero-add (x .count), zero-add (x .strays), zero-add (x .bytes))
-
-or-false : (b : Bool) → b || false ≡ b
-or-false true = refl
-or-false false = refl
-
-or-true : (b : Bool) → b || true ≡ true
-or-true true = refl
-or-true false = refl
 
 -- ---- the end
 pub joined-ends : (q : Quoted) (p n end : ℕ) (closed : Bool) (error : ℕ) (r : List Char) → Fresh q → p + widths (take n r) ≡ end

@@ -9,13 +9,12 @@ use native.Mathlib.Nat.{add-zero}
 use native.Mathlib.Omega.{arith}
 use lib.Dec.{eqb, ltb}
 use lib.ListN.{length, getD, drop, drop-of-length-le, length-drop}
-use borrow.Author.Tests.{ne-eqb, ltb-true}
+use borrow.Author.Tests.{ne-eqb, eqb-false, ltb-true}
 use Rattle.basics.proofs.Choice.{either, cond-ind}
 use Rattle.basics.proofs.Lists.{drop-next}
 use Rattle.quotes.specs.declared.Quoted.{Quoted}
 use Rattle.quotes.specs.Body.{quotedAt}
 use Rattle.quotes.specs.Steps.{nothing, added, isPlain, plainLen, addedPlain, stopped}
-use Rattle.quotes.proofs.Heads.{not-so}
 use Rattle.quotes.proofs.Places.{joined, joined-start, step-quote, step-ascii}
 
 -- ---- such a byte
@@ -33,7 +32,7 @@ plain-is quote b = go (eqb b quote) (eqb b 10) (eqb b 92) refl refl refl
     go true u v f g h e = absurd (false≢true e)
     go false true v f g h e = absurd (false≢true e)
     go false false true f g h e = absurd (false≢true e)
-    go false false false f g h e = record { no-quote = not-so _ _ f; no-lf = not-so _ _ g; no-slash = not-so _ _ h; low = ltb-true b 0x80 e }
+    go false false false f g h e = record { no-quote = eqb-false _ _ f; no-lf = eqb-false _ _ g; no-slash = eqb-false _ _ h; low = ltb-true b 0x80 e }
 
 -- ---- the run at a place
 module _ (quote : ℕ) where

@@ -1,14 +1,14 @@
 -- What an escape gives is shorter than the escape with its backslash.
 use Prim.Native.Nat.{ℕ, zero, suc, _+_, _*_, _≤_, _<_}
 use mathlib.Core.Path.{_≡_, refl, ap}
-use mathlib.Core.Bool.{Bool, true, false, cond, _&&_, true≢false}
+use mathlib.Core.Bool.{Bool, true, false, cond, true≢false}
 use mathlib.Core.List.{List, [], _∷_}
 use native.Mathlib.Omega.{arith}
-use lib.Dec.{T, eqb, ltb, lit≤, lit<}
+use lib.Dec.{eqb, ltb, lit≤, lit<}
 use lib.ListN.{length}
 use borrow.Author.Tests.{eqb-true, ltb-true, lt-ltb}
 use Rattle.basics.specs.Between.{between}
-use Rattle.basics.proofs.Choice.{cond-ind, and-left, and-right, true-of}
+use Rattle.basics.proofs.Choice.{cond-ind, true-of}
 use Rattle.utf8.specs.declared.Char.{Char}
 use Rattle.utf8.specs.Chars.{octets, encode}
 use Rattle.digits.specs.Digit.{digitVal}
@@ -16,8 +16,9 @@ use Rattle.quotes.specs.declared.Given.{Given}
 use Rattle.quotes.specs.declared.Escaped.{Escaped}
 use Rattle.quotes.specs.declared.numeral.Numeral.{Numeral}
 use Rattle.quotes.specs.Numeral.{numeral}
-use Rattle.quotes.specs.Escape.{lookup, letters, letter, following, codeOf, octalEscape, hexEscape, escapeOf, bytesOf}
+use Rattle.quotes.specs.Escape.{letters, letter, following, codeOf, octalEscape, hexEscape, escapeOf, bytesOf}
 use Rattle.quotes.proofs.Bodies.{encode-most, byte-most}
+use Rattle.quotes.proofs.EscapeLaws.{lookup-ind}
 
 -- digits without an error are as many as asked for
 numeral-whole : (base : ℕ) (r : List Char) (n v : ℕ) → numeral base n v r .error ≡ 0 → numeral base n v r .len ≡ n
@@ -43,20 +44,9 @@ encode-low : (c : ℕ) → c < 0x80 → length (encode c) ≤ 1
 unfolding encode octets
 encode-low c h = rw (lt-ltb c 0xD800 (omega arith), lt-ltb c 0x80 h) (lit≤ tt)
 
--- a table of low numbers gives low numbers
-abbrev allLow : List (ℕ × ℕ) → Bool
-allLow [] = true
-allLow (row ∷ rows) = ltb (row .1) 0x80 && allLow rows
-
-lookup-low : (c : ℕ) (rows : List (ℕ × ℕ)) → T (allLow rows) → lookup c rows < 0x80
-lookup-low c [] t = lit< tt
-lookup-low c (row ∷ rows) t =
-    cond-ind (λ x. x < 0x80) (eqb c (row .0)) _ _
-    (λ _. ltb-true (row .1) 0x80 (true-of _ (and-left (ltb (row .1) 0x80) (allLow rows) t))) (λ _. lookup-low c rows (and-right (ltb (row .1) 0x80) (allLow rows) t))
-
 letter-low : (c : ℕ) → letter c < 0x80
 unfolding letter
-letter-low c = lookup-low c letters tt
+letter-low c = lookup-ind (λ row. ltb (row .1) 0x80) (λ n. n < 0x80) c (lit< tt) (λ row low _. ltb-true (row .1) 0x80 (true-of _ low)) letters tt
 
 abbrev Shorter : Escaped → Type 0
 Shorter x = length (bytesOf (x .given)) ≤ x .len

@@ -1,7 +1,7 @@
 -- The value of a body without an escape: the bytes of its characters, where each stray byte gives three.
 use Prim.Native.Nat.{ℕ, zero, suc, _+_, _*_, _≤_, _<_}
 use mathlib.Core.Path.{_≡_, refl, sym, ap, ap₂, _∙_}
-use mathlib.Core.Bool.{true, false, cond, not, true≢false, false≢true}
+use mathlib.Core.Bool.{true, false, cond, not, true≢false, false≢true, and-false}
 use mathlib.Core.List.{List, [], _∷_, _++_}
 use mathlib.Core.Logic.{⊎-elim}
 use native.Mathlib.Omega.{arith}
@@ -12,7 +12,7 @@ use lib.ListN.{length, take, drop, length-append, length-drop}
 use lib.Seq.{length-take-le, take-nil, take-add, drop-drop}
 use borrow.Author.Tests.{eqb-true, eqb-false, ne-eqb}
 use Rattle.basics.specs.Same.{same}
-use Rattle.basics.proofs.Choice.{cond-ind, either, and-no}
+use Rattle.basics.proofs.Choice.{cond-ind, either}
 use Rattle.basics.proofs.Lists.{same-refl, same-length}
 use Rattle.utf8.specs.declared.Char.{Char}
 use Rattle.utf8.specs.Chars.{firstChar, chars, isStray, widths, encode, encoded}
@@ -62,7 +62,7 @@ body-plain quote (c ∷ r) =
 
 -- ---- the closing quote and the characters of an escape are ASCII: the stray bytes of a body are those among the characters that it reads
 low-no-stray : (c : Char) → c .code < 0x80 → isStray c ≡ false
-low-no-stray c h = rw (ne-eqb (c .code) 0xFFFD (λ e. omega arith)) (and-no (eqb (c .width) 1))
+low-no-stray c h = rw (ne-eqb (c .code) 0xFFFD (λ e. omega arith)) (and-false (eqb (c .width) 1))
 
 low-none : (n : ℕ) (r : List Char) → Heads (λ c. c < 0x80) n r → straysIn (take n r) ≡ 0
 low-none zero r h = refl

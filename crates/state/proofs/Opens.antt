@@ -1,13 +1,12 @@
 -- What opening comes to, case by case.
 use Prim.Native.Nat.{ℕ, _≤_, _<_}
 use mathlib.Core.Path.{_≡_, refl}
-use mathlib.Core.Bool.{Bool, true, false, cond}
+use mathlib.Core.Bool.{Bool, true, false, cond, and-false}
 use mathlib.Core.List.{List}
 use mathlib.Core.Option.{some, none}
 use native.Mathlib.Omega.{arith}
 use lib.ListN.{length, set}
 use borrow.Author.Tests.{le-leb, lt-leb, lt-ltb, le-ltb}
-use Rattle.basics.proofs.Choice.{and-no}
 use Rattle.utf8.specs.declared.Checked.the-variants.{Valid, Bad}
 use Rattle.utf8.specs.Chars.{chars, wellFormed, bytesBefore, checked}
 use Rattle.refusal.specs.Outcome.{gave}
@@ -46,7 +45,7 @@ module _ (src : List ℕ) (base size : ℕ) (table : List ℕ) where
 
       pub open-unplaced : placed (fileOf (fresh base size)) ≡ false → openOf src base size table ≡ refusedWith 3 none table
       unfolding openOf fresh
-      open-unplaced h = rw (le-ltb _ _ short, valid .0, h, and-no)
+      open-unplaced h = rw (le-ltb _ _ short, valid .0, h, and-false)
 
       module _ (h : n ≤ size) (g : placed (fileOf (fresh base size)) ≡ true) where
         pub open-full : length table ≡ 0 → openOf src base size table ≡ refusedWith 7 none table

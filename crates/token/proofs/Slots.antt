@@ -41,13 +41,13 @@ module _ (f : ℕ → ℕ) where
 
   -- a table of 64 entries is filled up to a slot
   abbrev pub Filled : List ℕ → ℕ → Type 0
-  Filled l n = (length l ≡ 64) × ((i : ℕ) → i < n → getD l i 0 ≡ f i)
+  Filled l n = (n ≤ 64) × (length l ≡ 64) × ((i : ℕ) → i < n → getD l i 0 ≡ f i)
 
   pub begun : (l : List ℕ) → length l ≡ 64 → Filled l 0
-  begun l e = (e, λ i h. absurd (not-suc-le-zero h))
+  begun l e = (omega arith, e, λ i h. absurd (not-suc-le-zero h))
 
   pub more : (l : List ℕ) (n x : ℕ) → n < 64 → x ≡ f n → Filled l n → Filled (set l n x) (n + 1)
-  more l n x h e (long, low) = (length-set l n x ∙ long, λ i g. elim (decLt i n) [ yes d ↦ before i d | no d ↦ here i (omega arith) ])
+  more l n x h e (_, long, low) = (omega arith, length-set l n x ∙ long, λ i g. elim (decLt i n) [ yes d ↦ before i d | no d ↦ here i (omega arith) ])
     where
       here : (i : ℕ) → i ≡ n → getD (set l n x) i 0 ≡ f i
       here i d = rw d (getD-set-same l n x 0 (omega arith) ∙ e)
@@ -55,9 +55,9 @@ module _ (f : ℕ → ℕ) where
       before : (i : ℕ) → i < n → getD (set l n x) i 0 ≡ f i
       before i g = getD-set-other l n i x 0 (λ d. omega arith) ∙ low i g
 
-  pub full : (l : List ℕ) → Filled l 64 → l ≡ bySlot f
-  full l (long, low) =
-      ext-getD 0 l (bySlot f) (long ∙ sym by-slot-length) (λ i h. low i (omega arith) ∙ sym (entry i (omega arith)))
+  pub full : (l : List ℕ) (n : ℕ) → 64 ≤ n → Filled l n → l ≡ bySlot f
+  full l n h (_, long, low) =
+      ext-getD 0 l (bySlot f) (long ∙ sym by-slot-length) (λ i k. low i (omega arith) ∙ sym (entry i (omega arith)))
 
 plus-mod : (n m : ℕ) → (n % 64 + m) % 64 ≡ (n + m) % 64
 plus-mod n m = omega arith

@@ -1,33 +1,23 @@
 -- Laws of blocks of ASCII: one byte more, by the greatest byte so far.
 use Prim.Native.Nat.{ℕ, _+_, _≤_, _<_}
-use mathlib.Core.Path.{_≡_, refl, _∙_}
-use mathlib.Core.Bool.{Bool, true, false, _&&_}
+use mathlib.Core.Path.{_≡_, refl, sym, _∙_}
+use mathlib.Core.Bool.{Bool, true, false, _&&_, and-true, and-false, and-assoc}
 use mathlib.Core.List.{List, [], _∷_, _++_}
 use native.Mathlib.Omega.{arith}
-use native.Mathlib.Numerals.{add-one}
 use lib.Dec.{ltb, leb}
-use lib.ListN.{length, getD, take, drop, length-drop}
-use lib.Seq.{take-suc, getD-drop}
+use lib.ListN.{length, getD, take, drop}
 use borrow.Author.Tests.{ltb-true, lt-ltb, leb-true, le-leb, lt-leb}
-use Rattle.basics.proofs.Choice.{and-no, and-split}
+use Rattle.basics.proofs.Choice.{and-split}
+use Rattle.basics.proofs.Lists.{take-more}
 use Rattle.utf8.specs.Bytes.{allAscii, asciiBlock}
 
 allAscii-snoc : (s : List ℕ) (b : ℕ) → allAscii (s ++ (b ∷ [])) ≡ allAscii s && ltb b 0x80
-allAscii-snoc [] b = refl-and (ltb b 0x80)
-  where
-    refl-and : (t : Bool) → t && true ≡ t
-    refl-and true = refl
-    refl-and false = refl
-allAscii-snoc (x ∷ s) b = rw (allAscii-snoc s b) (and-assoc (ltb x 0x80))
-  where
-    and-assoc : (t : Bool) → t && (allAscii s && ltb b 0x80) ≡ t && allAscii s && ltb b 0x80
-    and-assoc true = refl
-    and-assoc false = refl
+allAscii-snoc [] b = and-true (ltb b 0x80)
+allAscii-snoc (x ∷ s) b = rw (allAscii-snoc s b) (sym (and-assoc (ltb x 0x80) (allAscii s) (ltb b 0x80)))
 
 module _ (s : List ℕ) (at k g : ℕ) (inside : at + k < length s) (before : allAscii (take k (drop at s)) ≡ ltb g 0x80) where
   one-more : allAscii (take (k + 1) (drop at s)) ≡ ltb g 0x80 && ltb (getD s (at + k) 0) 0x80
-  one-more =
-      rw (add-one, take-suc (drop at s) k 0 (omega (arith, length-drop at s)), allAscii-snoc, before, getD-drop) refl
+  one-more = rw (take-more s at k 0 inside, allAscii-snoc, before) refl
 
   -- the greatest byte of one more
   pub ascii-greater : g < getD s (at + k) 0 → allAscii (take (k + 1) (drop at s)) ≡ ltb (getD s (at + k) 0) 0x80
@@ -35,7 +25,7 @@ module _ (s : List ℕ) (at k g : ℕ) (inside : at + k < length s) (before : al
     where
       go : (t : Bool) → ltb (getD s (at + k) 0) 0x80 ≡ t → ltb g 0x80 && t ≡ t
       go true e = rw (lt-ltb g 0x80 (omega (arith, ltb-true (getD s (at + k) 0) 0x80 e)))
-      go false e = and-no (ltb g 0x80)
+      go false e = and-false (ltb g 0x80)
 
   pub ascii-no-greater : getD s (at + k) 0 ≤ g → allAscii (take (k + 1) (drop at s)) ≡ ltb g 0x80
   ascii-no-greater h = one-more ∙ go (ltb g 0x80) refl

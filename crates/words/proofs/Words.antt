@@ -27,16 +27,14 @@ pub letter-by-bounds : (b : ℕ) → b < 256 → byBounds b ≡ isLetter b
 unfolding right isLetter
 letter-by-bounds b h = same-test _ _ (every-below right 256 tt b h)
 
--- no character above 127 is part of a word
+-- no character above 127 is a letter, or part of a word
+pub letter-high : (c : ℕ) → 0x80 ≤ c → isLetter c ≡ false
+unfolding isLetter
+letter-high c h = rw (above-it 97 c 122 (omega arith) (omega arith), above-it 65 c 90 (omega arith) (omega arith), ne-eqb c 95 (λ e. omega arith))
+
 pub word-high : (c : ℕ) → 0x80 ≤ c → isWord c ≡ false
-unfolding isWord isLetter
-word-high c h =
-    rw (
-      above-it 97 c 122 (omega arith) (omega arith),
-      above-it 65 c 90 (omega arith) (omega arith),
-      ne-eqb c 95 (λ e. omega arith),
-      above-it 48 c 57 (omega arith) (omega arith),
-    )
+unfolding isWord
+word-high c h = rw (letter-high c h, above-it 48 c 57 (omega arith) (omega arith))
 
 module _ (s : List ℕ) (p : ℕ) where
   pub word-end : length s ≤ p → p + wordLen (chars (drop p s)) ≡ p

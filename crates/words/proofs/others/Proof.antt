@@ -1,6 +1,8 @@
 -- `words::others` meets its contract: nothing overflows, and each byte is marked by itself.
+use native.Mathlib.Omega.{arith}
 use borrow.Author.Needs.{needs}
-use Rattle.words.proofs.Marks.{marks-each, letter-fits, letter-less, digit-fits, digit-less, plain-fits}
+use Rattle.lanes.proofs.Marks.{aparts-fit}
+use Rattle.words.proofs.Marks.{others-each, letter-fits, letter-less, digit-fits, digit-less}
 use Rattle.words.proofs.others.Statement.{statement}
 use Rattle.words.proofs.others.Tie as tie
 
@@ -17,10 +19,10 @@ sub-digit : tie.Need-sub-digit
 sub-digit c = digit-less (c .args .w) (search needs)
 
 add-no-underscore : tie.Need-add-no-underscore
-add-no-underscore c = record { fits = plain-fits (c .args .w) (search needs) }
+add-no-underscore c = record { fits = aparts-fit (c .args .w) (search needs) 0x5F (omega arith) }
 
 returns : tie.Need-returns
-returns c = marks-each (c .args .w) (search needs)
+returns c = others-each (c .args .w) (search needs)
 
 pub others-spec : {M : Type 1} → statement M
 others-spec = tie.close (tie.spec add-letter sub-letter add-digit sub-digit add-no-underscore returns)

@@ -7,7 +7,7 @@ use borrow.Author.Tests.{leb-true, leb-false}
 use lib.ListN.{length, drop}
 use Rattle.utf8.specs.Chars.{chars}
 use Rattle.words.specs.Word.{wordLen}
-use Rattle.words.proofs.Marks.{run-skip, run-room}
+use Rattle.words.proofs.Marks.{word-skip, run-room}
 use Rattle.words.proofs.word_end.Statement.{statement}
 use Rattle.words.proofs.word_end.Tie as tie
 
@@ -46,7 +46,7 @@ loop-less c = omega (arith, inside (c .before .before))
 loop-again : tie.Need-loop-again Inv-loop μ-loop
 loop-again c =
     let l = c .before .before .before .before in
-    let skip = run-skip (l .before .before .args .src .now) 8 (l .loop .p) (omega (arith, c .before .run-at .ensures)) in
+    let skip = word-skip (l .before .before .args .src .now) 8 (l .loop .p) (omega (arith, c .before .run-at .ensures)) in
     (omega (arith, inside (c .before .before)), omega (arith, l .loop .inv .1, skip))
 
 run-at-requires-2 : tie.Need-run-at-requires-2 Inv-loop μ-loop

@@ -7,7 +7,8 @@ use borrow.Author.Tests.{not-false, leb-true}
 use lib.Bits.{and-le-r}
 use lib.Count.{trailing-le}
 use lib.Dec.{lit<}
-use Rattle.bodies.proofs.Marks.{not-stops-fit, run-none, run-of-eight}
+use Rattle.lanes.proofs.Marks.{aparts-fit}
+use Rattle.bodies.proofs.Marks.{run-none, run-of-eight}
 use Rattle.bodies.proofs.plain.run_len.Statement.{statement}
 use Rattle.bodies.proofs.plain.run_len.Tie as tie
 
@@ -29,7 +30,7 @@ mul-not-stop c = search needs
 add-not-stop : tie.Need-add-not-stop
 add-not-stop c =
     let s = c .before .before .before .before in
-    record { fits = not-stops-fit (c .eight .result) (search needs) (s .args .stop) (s .pre .0) }
+    record { fits = aparts-fit (c .eight .result) (search needs) (s .args .stop) (s .pre .0) }
 
 cast-result : tie.Need-cast-result
 cast-result c = record { fits = lt-of-le-of-lt (trailing-le 64 _) (lit< tt) }

@@ -1,12 +1,11 @@
 -- `lexer::comments::lex_comment` meets its contract: by the second byte, and whether the comment ends its line under a set mark.
 use Prim.Native.Nat.{_+_}
 use mathlib.Core.Path.{_≡_, sym, _∙_}
-use mathlib.Core.Bool.{_&&_, false}
+use mathlib.Core.Bool.{_&&_, false, and-false}
 use mathlib.Core.Logic.{⊎-elim}
 use native.Mathlib.Omega.{arith}
 use lib.ListN.{getD, drop}
 use borrow.Author.Needs.{needs}
-use Rattle.basics.proofs.Choice.{and-no}
 use Rattle.basics.proofs.Lists.{reach}
 use Rattle.utf8.specs.Chars.{chars}
 use Rattle.bodies.specs.Line.{endsLine}
@@ -65,7 +64,7 @@ general-comment-requires c κs = (c .before .before .before .pre .0, star (c .be
 kept : (c : tie.Joined3) → c .before .before .before .args .mark && endsLine false (chars (drop (c .before .before .before .args .at + 2) (c .before .before .before .args .src .now))) ≡ false
 kept c =
     let m = c .before .before .before .args .mark in
-    ⊎-elim (λ w. rw (sym (w .1 .ensures) ∙ w .2 .left) (and-no m)) (λ w. rw (w .left)) (c .if3 .came)
+    ⊎-elim (λ w. rw (sym (w .1 .ensures) ∙ w .2 .left) (and-false m)) (λ w. rw (w .left)) (c .if3 .came)
 
 returns-4 : tie.Need-returns-4
 returns-4 c =

@@ -1,10 +1,10 @@
 -- `query::part_of` meets its contract: each test of the code is one of the definition's.
 use mathlib.Core.Logic.{⊎-elim}
+use mathlib.Core.Bool.{and-false}
 use native.Mathlib.Omega.{arith}
 use lib.ListN.{length}
 use borrow.Author.Needs.{needs}
 use borrow.Author.Tests.{le-leb, lt-leb}
-use Rattle.basics.proofs.Choice.{and-no}
 use Rattle.state.proofs.query.part_of.Statement.{statement}
 use Rattle.state.proofs.query.part_of.Tie as tie
 
@@ -24,7 +24,7 @@ slice-aggregate-result c = search needs
 
 returns-2 : tie.Need-returns-2
 returns-2 c =
-    ⊎-elim (λ w. rw (lt-leb _ _ (w .1 .left), and-no)) (λ w. rw (lt-leb _ _ (w .left))) (c .before .if1 .came)
+    ⊎-elim (λ w. rw (lt-leb _ _ (w .1 .left), and-false)) (λ w. rw (lt-leb _ _ (w .left))) (c .before .if1 .came)
 
 pub part-of-spec : {M : Type 1} → statement M
 part-of-spec =

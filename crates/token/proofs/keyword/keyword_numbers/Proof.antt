@@ -1,7 +1,6 @@
 -- The loop fills the table slot by slot.
-use Prim.Native.Nat.{ℕ, _-_, _≤_}
-use mathlib.Core.Path.{_≡_, refl, ap}
-use native.Mathlib.Omega.{arith}
+use Prim.Native.Nat.{ℕ, _-_}
+use mathlib.Core.Path.{refl, ap}
 use lib.ListN.{replicate}
 use borrow.Author.Needs.{needs}
 use Rattle.token.specs.Table.{keywords}
@@ -15,13 +14,13 @@ abbrev has : ℕ → ℕ
 has slot = rowIn slot keywords .1
 
 abbrev Inv-loop : tie.InvT-loop
-Inv-loop numbers₀ slot₀ numbers slot = (slot ≤ 64) × Filled has numbers slot
+Inv-loop numbers₀ slot₀ numbers slot = Filled has numbers slot
 
 abbrev μ-loop : tie.MeasureT-loop
 μ-loop numbers₀ slot₀ numbers slot = 64 - slot
 
 loop-holds : tie.Need-loop-holds Inv-loop μ-loop
-loop-holds c = (search needs, begun has (replicate 64 0) refl)
+loop-holds c = begun has (replicate 64 0) refl
 
 row-in-requires : tie.Need-row-in-requires Inv-loop μ-loop
 row-in-requires c κs = search needs
@@ -41,13 +40,10 @@ loop-less c = search needs
 loop-again : tie.Need-loop-again Inv-loop μ-loop
 loop-again c =
     let l = c .before .before .loop in
-    (search needs, more has (l .numbers) (l .slot) (c .row-in .result .1) (c .before .loop-test .taken) (ap (λ r. r .1) (c .row-in .ensures)) (l .inv .1))
+    more has (l .numbers) (l .slot) (c .row-in .result .1) (c .before .loop-test .taken) (ap (λ r. r .1) (c .row-in .ensures)) (l .inv)
 
 returns : tie.Need-returns Inv-loop μ-loop
-returns c =
-    let l = c .before .loop in
-    let e : l .slot ≡ 64 = omega arith in
-    full has (l .numbers) (rw e at (l .inv .1))
+returns c = full has (c .before .loop .numbers) (c .before .loop .slot) (c .loop-test .left) (c .before .loop .inv)
 
 pub keyword-numbers-spec : {M : Type 1} → statement M
 keyword-numbers-spec =
