@@ -37,7 +37,7 @@ use Rattle.lexer.specs.Placed.{placed, said}
 use Rattle.lexer.proofs.Said.{semicolon-said}
 use Rattle.lexer.proofs.Tokens.{operator-fits, operator-said}
 use Rattle.lexer.proofs.Opened.{open-chars}
-use Rattle.lexer.proofs.Dispatch.{feed-is, operator-is}
+use Rattle.lexer.proofs.Dispatch.{by-byte, is-by, feed-is, operator-is}
 use Rattle.batch.specs.Simple.{startsOperator, firstKind}
 
 -- ---- what a byte tells, by computing each
@@ -158,21 +158,17 @@ starts =
 
 -- ---- the token at a place whose byte is a delimiter
 module _ (s : List ℕ) (at : ℕ) (mark : Bool) where
-  by-byte : (x : ℕ) → 0 < x → x < 0x80 → getD s at 0 ≡ x → lexToken mark (chars (drop at s)) ≡ lexBy mark x (chars (drop at s))
-  unfolding lexToken
-  by-byte x some low e = rw (open-chars s at x some low e)
-
-  operator-read : (x kind : ℕ) → 0 < x → x < 0x80 → getD s at 0 ≡ x → op kind 1 ≡ operatorOf (chars (drop at s)) → kind ≢ ILLEGAL
+  operator-read : (x kind : ℕ) → 0 < x → getD s at 0 ≡ x → op kind 1 ≡ operatorOf (chars (drop at s)) → kind ≢ ILLEGAL
       → lexBy mark x (chars (drop at s)) ≡ lexOperator mark (chars (drop at s))
       → said s at (madeAt kind at (at + 1) (setsMark kind) Empty NoValue) ≡ placed s at (lexToken mark (chars (drop at s)))
-  operator-read x kind some low e is n by =
-      operator-said s at mark (op kind 1) is n ∙ ap (placed s at) (sym (by-byte x some low e ∙ by))
+  operator-read x kind some e is n by =
+      operator-said s at mark (op kind 1) is n ∙ ap (placed s at) (sym (is-by mark s at (reach s at (omega (arith, e, some))) x e ∙ by))
 
   -- one that begins no other
-  alone : (x kind : ℕ) → 0 < x → x < 0x80 → among x operators ≡ row kind (x ∷ []) ∷ [] → kind ≢ ILLEGAL
+  alone : (x kind : ℕ) → 0 < x → among x operators ≡ row kind (x ∷ []) ∷ [] → kind ≢ ILLEGAL
       → lexBy mark x (chars (drop at s)) ≡ lexOperator mark (chars (drop at s))
       → getD s at 0 ≡ x → said s at (madeAt kind at (at + 1) (setsMark kind) Empty NoValue) ≡ placed s at (lexToken mark (chars (drop at s)))
-  alone x kind some low rows n by e = operator-read x kind some low e (one-is s at x e kind rows) n by
+  alone x kind some rows n by e = operator-read x kind some e (one-is s at x e kind rows) n by
 
   -- a point before a letter
   point : isLetter (getD s (at + 1) 0) ≡ true
@@ -182,7 +178,7 @@ module _ (s : List ℕ) (at : ℕ) (mark : Bool) where
       let p = letter-past (getD s (at + 1) 0) l in
       let no-point = ne-eqb (getD s (at + 1) 0) 46 (λ z. omega (arith, p, z)) in
       let no-digit = above-it 48 (getD s (at + 1) 0) 57 (omega (arith, p)) (omega (arith, p)) in
-      operator-read 46 PERIOD (omega arith) (omega arith) e (rw no-point at (period-is s at e)) (λ z. omega arith)
+      operator-read 46 PERIOD (omega arith) e (rw no-point at (period-is s at e)) (λ z. omega arith)
       (sym (rw e at (operator-is mark s at (reach s at (omega (arith, e))) (getD s (at + 1) 0) refl (rw (e, no-digit)) (rw e) (rw (e, no-point)))))
 
   -- the delimiter by what its byte tells
@@ -199,15 +195,15 @@ module _ (s : List ℕ) (at : ℕ) (mark : Bool) where
   unfolding firstKind startsOperator isLetter lexBy operators
   delimiter-read =
       delimiter-ind Reads
-      (λ e p. alone 40 LPAREN (omega arith) (omega arith) refl (λ z. omega arith) refl e)
-      (λ e p. alone 41 RPAREN (omega arith) (omega arith) refl (λ z. omega arith) refl e)
-      (λ e p. alone 44 COMMA (omega arith) (omega arith) refl (λ z. omega arith) refl e)
+      (λ e p. alone 40 LPAREN (omega arith) refl (λ z. omega arith) refl e)
+      (λ e p. alone 41 RPAREN (omega arith) refl (λ z. omega arith) refl e)
+      (λ e p. alone 44 COMMA (omega arith) refl (λ z. omega arith) refl e)
       point-read
-      (λ e p. alone 59 SEMICOLON (omega arith) (omega arith) refl (λ z. omega arith) refl e)
-      (λ e p. alone 91 LBRACK (omega arith) (omega arith) refl (λ z. omega arith) refl e)
-      (λ e p. alone 93 RBRACK (omega arith) (omega arith) refl (λ z. omega arith) refl e)
-      (λ e p. alone 123 LBRACE (omega arith) (omega arith) refl (λ z. omega arith) refl e)
-      (λ e p. alone 125 RBRACE (omega arith) (omega arith) refl (λ z. omega arith) refl e)
+      (λ e p. alone 59 SEMICOLON (omega arith) refl (λ z. omega arith) refl e)
+      (λ e p. alone 91 LBRACK (omega arith) refl (λ z. omega arith) refl e)
+      (λ e p. alone 93 RBRACK (omega arith) refl (λ z. omega arith) refl e)
+      (λ e p. alone 123 LBRACE (omega arith) refl (λ z. omega arith) refl e)
+      (λ e p. alone 125 RBRACE (omega arith) refl (λ z. omega arith) refl e)
 
   -- the semicolon before a line feed
   pub feed-read : getD s at 0 ≡ 10 → said s at (insertedAt at) ≡ placed s at (lexToken mark (chars (drop at s)))
@@ -240,4 +236,4 @@ module _ (s : List ℕ) (at : ℕ) (o : Operator) (is : o ≡ operatorOf (chars 
       → said s at (madeAt (o .kind) at (at + o .len) (setsMark (o .kind)) Empty NoValue) ≡ placed s at (lexToken mark (chars (drop at s)))
   operator-reads mark =
       operator-said s at mark o is (λ e. omega (arith, e, operator-kind .0))
-      ∙ ap (placed s at) (sym (by-byte s at mark (getD s at 0) (first-byte .0) (first-byte .1) refl ∙ starts (getD s at 0) h .1 mark (chars (drop at s))))
+      ∙ ap (placed s at) (sym (by-byte mark s at (reach s at (first-byte .0)) ∙ starts (getD s at 0) h .1 mark (chars (drop at s))))
