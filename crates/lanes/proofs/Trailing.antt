@@ -47,7 +47,8 @@ zeros-lt k n p h = let e : 0 * 2 ^ k + n ≡ n = omega arith in rw (e, add-zero 
 zeros-end : (n a b : ℕ) → 0 < b → b < 256 → trailingZeros (8 * suc n) (a * 256 + b) / 8 ≡ 0
 zeros-end n a b l h = let size : 8 * suc n ≡ 8 + 8 * n = omega arith in rw size (omega (arith, zeros-low 8 (8 * n) a b l h))
 
--- Of n bytes from a place p on, f is zero at as many as whole bytes of zeros stand at the end, and at no byte after these.
+-- P n p k speaks of the n bytes from a place p on, the first k of which f makes zero. What holds of no bytes, of a first one that f makes something else, and of one
+-- more that it makes zero, holds with the whole bytes of zeros that f of the n bytes ends in.
 module _ (f : ℕ → ℕ) (small : Small f) (s : List ℕ) (bytes : Bytes s) (P : ℕ → ℕ → ℕ → Type 0) where
   module _ (none : (p : ℕ) → P 0 p 0) (end : (n p : ℕ) → 0 < f (getD s p 0) → P (suc n) p 0)
       (more : (n p k : ℕ) → f (getD s p 0) ≡ 0 → P n (suc p) k → P (suc n) p (suc k)) where

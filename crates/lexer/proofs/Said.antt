@@ -14,7 +14,7 @@ use Rattle.lexer.specs.Lexeme.{insertedSemicolon}
 use Rattle.lexer.specs.Made.{insertedAt}
 use Rattle.lexer.specs.Placed.{Placed, textDiffersIn, placed, lengthOf, said}
 
--- they are alike if each field is
+-- alike in each field
 pub record Alike (p q : Placed) : Type 0 where
   pub lexeme : p .lexeme ≡ q .lexeme
   pub end : p .end ≡ q .end

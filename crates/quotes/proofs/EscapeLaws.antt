@@ -1,4 +1,4 @@
--- Laws of escapes: one at a place of a text, by the character there.
+-- Laws of escapes: what a table gives, and an escape at a place of a text, by the character there.
 use Prim.Native.Nat.{ℕ, _+_, _≤_, _<_}
 use mathlib.Core.Path.{_≡_, ap, _∙_}
 use mathlib.Core.Bool.{Bool}
