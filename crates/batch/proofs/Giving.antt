@@ -16,8 +16,8 @@ use Rattle.lanes.specs.Lanes.{numberOf}
 use Rattle.lanes.proofs.Numbers.{Bytes}
 use Rattle.token.specs.Kinds.{EOF, IDENT, STRING}
 use Rattle.token.specs.Table.{identToken}
-use Rattle.token.specs.Search.{kindIn}
-use Rattle.token.proofs.Slots.{kind-found}
+use Rattle.keywords.specs.Search.{kindIn}
+use Rattle.keywords.proofs.Slots.{kind-found}
 use Rattle.words.specs.Word.{isLetter, wordLen}
 use Rattle.lexer.specs.declared.lexed.Text.{Text}
 use Rattle.lexer.specs.declared.lexed.Text.the-variants.{Empty, AsRead}

@@ -21,7 +21,7 @@ use Rattle.token.specs.Kinds.{ILLEGAL, EOF, IDENT, INT, STRING, ADD, LPAREN, LB
 use Rattle.token.specs.Table.{operators, identToken}
 use Rattle.token.specs.Precedence.{among as isOneOf}
 use Rattle.token.proofs.Ranges.{value-within}
-use Rattle.token.proofs.Words.{word-kind}
+use Rattle.keywords.proofs.Words.{word-kind}
 use Rattle.words.specs.Word.{isLetter}
 use Rattle.operators.specs.declared.Operator.{Operator}
 use Rattle.operators.specs.Longest.{begins, op, operatorOf}

@@ -12,7 +12,7 @@ use Rattle.digits.specs.Digit.{isDecimal}
 use Rattle.token.specs.Kinds.{ILLEGAL, EOF, IDENT, INT, STRING, ADD, LPAREN, LBRACK, LBRACE, COMMA, PERIOD, RPAREN, RBRACK, RBRACE, SEMICOLON}
 use Rattle.token.specs.Precedence.{among}
 use Rattle.token.specs.Table.{keywords}
-use Rattle.token.specs.Search.{bySlot, rowIn}
+use Rattle.keywords.specs.Search.{bySlot, rowIn}
 use Rattle.words.specs.Word.{isLetter}
 use Rattle.lexer.specs.declared.lexed.Lexed.{Lexed}
 use Rattle.lexer.specs.Lex.{lexToken}

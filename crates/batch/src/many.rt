@@ -52,8 +52,8 @@ pub fn scan_many(
         return stopped(refusal::DOES_NOT_FIT, first, 0);
     }
     let firsts = first_kinds();
-    let numbers = token::keyword_numbers();
-    let kinds = token::keyword_kinds();
+    let numbers = keywords::keyword_numbers();
+    let kinds = keywords::keyword_kinds();
     let mut state = first;
     let mut count = 0;
     while count < room {

@@ -51,7 +51,7 @@ fn long_word(
     if safe <= end {
         return none(at);
     }
-    let kind = token::ident_token(&src[at..], end - at);
+    let kind = keywords::ident_token(&src[at..], end - at);
     give_word(kind, at, end, position, tokens, to)
 }
 
@@ -75,6 +75,6 @@ pub(crate) fn word(
     if n == 8 {
         return long_word(src, at, safe, position, tokens, to);
     }
-    let kind = token::kind_in(numbers, kinds, run.number, n);
+    let kind = keywords::kind_in(numbers, kinds, run.number, n);
     give_word(kind, at, at + n, position, tokens, to)
 }

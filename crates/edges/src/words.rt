@@ -2,7 +2,7 @@
 use super::show;
 
 fn kind(label: &[u8], text: &[u8], len: usize) {
-    show::number(label, token::ident_token(text, len) as usize);
+    show::number(label, keywords::ident_token(text, len) as usize);
 }
 
 pub(crate) fn print() {

@@ -16,7 +16,7 @@ pub(crate) fn lex_word(src: &[u8], at: usize) -> Lexed
     ensures { λ r. ⌜ said (now (src .entry)) at r ≡ placed (now (src .entry)) at (lexWord (chars (drop at (now (src .entry))))) ⌝ }
 {
     let end = words::word_end(src, at);
-    let kind = token::ident_token(&src[at..], end - at);
+    let kind = keywords::ident_token(&src[at..], end - at);
     if kind == token::IDENT {
         return shown(kind, at, end, true);
     }

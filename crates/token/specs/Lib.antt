@@ -2,4 +2,3 @@ pub mod Kinds
 pub mod Table
 pub mod Precedence
 pub mod Names
-pub mod Search

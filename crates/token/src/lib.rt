@@ -1,16 +1,11 @@
-// Tokens: their kinds and names, the keywords, and the precedence of operators.
+// Tokens: their kinds, names and classes, and the precedence of operators.
 mod class;
-mod keyword;
 mod names;
 
 pub use class::is_keyword;
 pub use class::is_literal;
 pub use class::is_operator;
 pub use class::precedence;
-pub use keyword::ident_token;
-pub use keyword::keyword_kinds;
-pub use keyword::keyword_numbers;
-pub use keyword::kind_in;
 pub use names::Padded;
 pub use names::name;
 
