@@ -25,7 +25,7 @@ fn lex_illegal(src: &[u8], at: usize, mark: bool) -> Lexed
     requires { ⌜ (at < length (now src)) × (eqb (getD (now src) at 0) 10 ≡ false) ⌝ }
     ensures { λ r. ⌜ said (now (src .entry)) at r ≡ placed (now (src .entry)) at (lexIllegal mark 1 (chars (drop at (now (src .entry))))) ⌝ }
 {
-    let c = utf8::char_at(src, at);
+    let c = reader::char_from(src, at);
     let mut x = shown(token::ILLEGAL, at, at + c.width, mark);
     x.chars = 1;
     if utf8::is_stray(c) {

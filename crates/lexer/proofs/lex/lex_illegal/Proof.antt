@@ -8,13 +8,13 @@ use Rattle.lexer.proofs.Tokens.{illegal-said}
 use Rattle.lexer.proofs.lex.lex_illegal.Statement.{statement}
 use Rattle.lexer.proofs.lex.lex_illegal.Tie as tie
 
-char-at-requires : tie.Need-char-at-requires
-char-at-requires c κs = search needs
+char-from-requires : tie.Need-char-from-requires
+char-from-requires c κs = search needs
 
 add-shown : tie.Need-add-shown
 add-shown c =
     let a = c .before .before .before .args in
-    omega (arith, there-fits (a .src .now) (a .at) (c .before .char-at .result) (search needs) (c .before .char-at .ensures))
+    omega (arith, there-fits (a .src .now) (a .at) (c .before .char-from .result) (search needs) (c .before .char-from .ensures))
 
 shown-requires : tie.Need-shown-requires
 shown-requires c κs = search needs
@@ -26,15 +26,15 @@ returns : tie.Need-returns
 returns c =
     let a = c .before .before .before .before .before .before .args in
     rw (c .before .before .shown .ensures)
-    (illegal-said (a .src .now) (a .at) (search needs) (a .mark) (search needs) (c .before .before .before .before .char-at .result) true (c .before .before .before .before .char-at .ensures) (sym (c .before .is-stray .ensures) ∙ c .if1 .taken))
+    (illegal-said (a .src .now) (a .at) (search needs) (a .mark) (search needs) (c .before .before .before .before .char-from .result) true (c .before .before .before .before .char-from .ensures) (sym (c .before .is-stray .ensures) ∙ c .if1 .taken))
 
 returns-2 : tie.Need-returns-2
 returns-2 c =
     let a = c .before .before .before .before .before .before .args in
     rw (c .before .before .shown .ensures)
-    (illegal-said (a .src .now) (a .at) (search needs) (a .mark) (search needs) (c .before .before .before .before .char-at .result) false (c .before .before .before .before .char-at .ensures) (sym (c .before .is-stray .ensures) ∙ c .if1 .left))
+    (illegal-said (a .src .now) (a .at) (search needs) (a .mark) (search needs) (c .before .before .before .before .char-from .result) false (c .before .before .before .before .char-from .ensures) (sym (c .before .is-stray .ensures) ∙ c .if1 .left))
 
 pub lex-illegal-spec : {M : Type 1} → statement M
 lex-illegal-spec =
     tie.close
-    (tie.spec char-at-requires add-shown shown-requires is-stray-requires returns returns-2)
+    (tie.spec char-from-requires add-shown shown-requires is-stray-requires returns returns-2)
