@@ -15,7 +15,7 @@ use Rattle.basics.proofs.Every.{every-below}
 use Rattle.basics.proofs.Lists.{reach}
 use Rattle.utf8.specs.Chars.{chars}
 use Rattle.digits.specs.Digit.{isDecimal}
-use Rattle.token.specs.Kinds.{IDENT, INT, PERIOD}
+use Rattle.kinds.specs.Kinds.{IDENT, INT, PERIOD}
 use Rattle.words.specs.Word.{isLetter}
 use Rattle.numbers.specs.declared.Number.{Number}
 use Rattle.numbers.specs.declared.Spelling.the-variants.{AsRead}

@@ -12,10 +12,10 @@ use mathlib.Core.Logic.{⊎-elim}
 use borrow.Author.Tests.{ne-eqb, eq-eqb, eqb-true, eqb-false}
 use Rattle.basics.proofs.Choice.{either}
 use Rattle.utf8.specs.Chars.{chars}
-use Rattle.lanes.specs.Lanes.{numberOf}
-use Rattle.lanes.proofs.Numbers.{Bytes}
-use Rattle.token.specs.Kinds.{EOF, IDENT, STRING}
-use Rattle.token.specs.Table.{identToken}
+use Rattle.swar.specs.Lanes.{numberOf}
+use Rattle.swar.proofs.Numbers.{Bytes}
+use Rattle.kinds.specs.Kinds.{EOF, IDENT, STRING}
+use Rattle.kinds.specs.Table.{identToken}
 use Rattle.keywords.specs.Search.{kindIn}
 use Rattle.keywords.proofs.Slots.{kind-found}
 use Rattle.words.specs.Word.{isLetter, wordLen}

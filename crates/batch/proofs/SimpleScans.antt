@@ -11,7 +11,7 @@ use lib.ListN.{length, set, length-set}
 use lib.Seq.{sets}
 use borrow.Author.Tests.{le-leb, eqb-true}
 use Rattle.utf8.specs.Chars.{chars}
-use Rattle.token.specs.Kinds.{EOF}
+use Rattle.kinds.specs.Kinds.{EOF}
 use Rattle.position.proofs.Place.{Fit, fit}
 use Rattle.errors.specs.Errors.{roomOf}
 use Rattle.blanks.specs.declared.Skipped.{Skipped}

@@ -17,10 +17,10 @@ use Rattle.basics.proofs.Lists.{reach}
 use Rattle.utf8.specs.declared.Char.{Char}
 use Rattle.utf8.specs.Chars.{chars}
 use Rattle.digits.specs.Digit.{isDecimal}
-use Rattle.token.specs.Kinds.{ILLEGAL, EOF, IDENT, INT, STRING, ADD, LPAREN, LBRACK, LBRACE, COMMA, PERIOD, RPAREN, RBRACK, RBRACE, SEMICOLON, COLON, BREAK, VAR}
-use Rattle.token.specs.Table.{operators, identToken}
-use Rattle.token.specs.Precedence.{among as isOneOf}
-use Rattle.token.proofs.Ranges.{value-within}
+use Rattle.kinds.specs.Kinds.{ILLEGAL, EOF, IDENT, INT, STRING, ADD, LPAREN, LBRACK, LBRACE, COMMA, PERIOD, RPAREN, RBRACK, RBRACE, SEMICOLON, COLON, BREAK, VAR}
+use Rattle.kinds.specs.Table.{operators, identToken}
+use Rattle.kinds.specs.Precedence.{among as isOneOf}
+use Rattle.kinds.proofs.Ranges.{value-within}
 use Rattle.keywords.proofs.Words.{word-kind}
 use Rattle.words.specs.Word.{isLetter}
 use Rattle.operators.specs.declared.Operator.{Operator}

@@ -8,7 +8,7 @@ use lib.Dec.{eqb}
 use lib.ListN.{length, drop, getD}
 use lib.Seq.{sets}
 use Rattle.utf8.specs.Chars.{chars}
-use Rattle.token.specs.Kinds.{STRING}
+use Rattle.kinds.specs.Kinds.{STRING}
 use Rattle.quotes.specs.Steps.{plainLen}
 use Rattle.quotes.proofs.PlainRuns.{closedAt, run-closed}
 use Rattle.lexer.specs.declared.lexed.Lexed.{Lexed}

@@ -9,9 +9,9 @@ use lib.Seq.{sets}
 use Rattle.basics.specs.Spelling.{spelled}
 use Rattle.utf8.specs.Chars.{chars}
 use Rattle.digits.specs.Digit.{isDecimal}
-use Rattle.token.specs.Kinds.{ILLEGAL, EOF, IDENT, INT, STRING, ADD, LPAREN, LBRACK, LBRACE, COMMA, PERIOD, RPAREN, RBRACK, RBRACE, SEMICOLON}
-use Rattle.token.specs.Precedence.{among}
-use Rattle.token.specs.Table.{keywords}
+use Rattle.kinds.specs.Kinds.{ILLEGAL, EOF, IDENT, INT, STRING, ADD, LPAREN, LBRACK, LBRACE, COMMA, PERIOD, RPAREN, RBRACK, RBRACE, SEMICOLON}
+use Rattle.kinds.specs.Precedence.{among}
+use Rattle.kinds.specs.Table.{keywords}
 use Rattle.keywords.specs.Search.{bySlot, rowIn}
 use Rattle.words.specs.Word.{isLetter}
 use Rattle.lexer.specs.declared.lexed.Lexed.{Lexed}

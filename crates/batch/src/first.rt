@@ -6,36 +6,36 @@ ghost use Rattle.batch.specs.Simple.{IsTable};
 pub(crate) fn first_kinds() -> [u8; 256]
     ensures { λ r. ⌜ IsTable r ⌝ }
 {
-    let mut kinds = [token::ILLEGAL; 256];
-    kinds[33] = token::ADD;
-    kinds[34] = token::STRING;
-    kinds[37] = token::ADD;
-    kinds[38] = token::ADD;
-    kinds[40] = token::LPAREN;
-    kinds[41] = token::RPAREN;
-    kinds[42] = token::ADD;
-    kinds[43] = token::ADD;
-    kinds[44] = token::COMMA;
-    kinds[45] = token::ADD;
-    kinds[46] = token::PERIOD;
-    kinds[58] = token::ADD;
-    kinds[59] = token::SEMICOLON;
-    kinds[60] = token::ADD;
-    kinds[61] = token::ADD;
-    kinds[62] = token::ADD;
-    kinds[91] = token::LBRACK;
-    kinds[93] = token::RBRACK;
-    kinds[94] = token::ADD;
-    kinds[95] = token::IDENT;
-    kinds[123] = token::LBRACE;
-    kinds[124] = token::ADD;
-    kinds[125] = token::RBRACE;
+    let mut kinds = [kinds::ILLEGAL; 256];
+    kinds[33] = kinds::ADD;
+    kinds[34] = kinds::STRING;
+    kinds[37] = kinds::ADD;
+    kinds[38] = kinds::ADD;
+    kinds[40] = kinds::LPAREN;
+    kinds[41] = kinds::RPAREN;
+    kinds[42] = kinds::ADD;
+    kinds[43] = kinds::ADD;
+    kinds[44] = kinds::COMMA;
+    kinds[45] = kinds::ADD;
+    kinds[46] = kinds::PERIOD;
+    kinds[58] = kinds::ADD;
+    kinds[59] = kinds::SEMICOLON;
+    kinds[60] = kinds::ADD;
+    kinds[61] = kinds::ADD;
+    kinds[62] = kinds::ADD;
+    kinds[91] = kinds::LBRACK;
+    kinds[93] = kinds::RBRACK;
+    kinds[94] = kinds::ADD;
+    kinds[95] = kinds::IDENT;
+    kinds[123] = kinds::LBRACE;
+    kinds[124] = kinds::ADD;
+    kinds[125] = kinds::RBRACE;
     for b in 65..91usize {
-        kinds[b] = token::IDENT;
-        kinds[b + 32] = token::IDENT;
+        kinds[b] = kinds::IDENT;
+        kinds[b + 32] = kinds::IDENT;
     }
     for b in 48..58usize {
-        kinds[b] = token::INT;
+        kinds[b] = kinds::INT;
     }
     kinds
 }

@@ -22,7 +22,7 @@ fn digits_end(src: &[u8], firsts: &[u8; 256], at: usize, safe: usize) -> usize
 {
     let mut end = at;
     while end < safe {
-        if firsts[src[end] as usize] != token::INT {
+        if firsts[src[end] as usize] != kinds::INT {
             return end;
         }
         end += 1;
@@ -49,10 +49,10 @@ pub(crate) fn decimal(
         return none(at);
     }
     let next = firsts[src[end] as usize];
-    if next == token::IDENT {
+    if next == kinds::IDENT {
         return none(at);
     }
-    if next == token::PERIOD {
+    if next == kinds::PERIOD {
         return none(at);
     }
     if src[at] == 48 {
@@ -60,7 +60,7 @@ pub(crate) fn decimal(
             return none(at);
         }
     }
-    put_shown(token::INT, false, position, at, end, tokens, to);
+    put_shown(kinds::INT, false, position, at, end, tokens, to);
     Next {
         found: true,
         place: end,
@@ -84,7 +84,7 @@ fn put_string(start: usize, close: usize, position: usize, tokens: &mut [usize],
         end: close,
     };
     let token = Token {
-        kind: token::STRING,
+        kind: kinds::STRING,
         inserted: false,
         position,
         code: 0,

@@ -29,7 +29,7 @@ fn stopped(refusal: u8, state: State, count: usize) -> Batch
 fn is_last(t: Token) -> bool
     ensures { λ r. ⌜ r ≡ isLast t ⌝ }
 {
-    t.text.area | t.value.area | (t.kind == token::EOF)
+    t.text.area | t.value.area | (t.kind == kinds::EOF)
 }
 
 // Scans until a token is the last, a scan is refused or there is no room for one more token. A token is written as ten numbers.

@@ -57,7 +57,7 @@ fn line_feed(src: &[u8], at: usize, p: usize, mark: bool) -> Near
         };
     }
     let line = p + 1;
-    let tabs = u64::trailing_zeros(lanes::eight(src, line) ^ 0x0909_0909_0909_0909) as usize / 8;
+    let tabs = u64::trailing_zeros(swar::eight(src, line) ^ 0x0909_0909_0909_0909) as usize / 8;
     let end = line + tabs;
     Near {
         found: src[end] > 32,

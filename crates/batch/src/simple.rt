@@ -11,7 +11,7 @@ ghost use mathlib.Core.Path.{_≡_};
 ghost use mathlib.Core.Bool.{true};
 ghost use Prim.Native.Nat.{_+_, _≤_, _<_};
 ghost use lib.ListN.{length, getD};
-ghost use Rattle.token.specs.Kinds.{LPAREN};
+ghost use Rattle.kinds.specs.Kinds.{LPAREN};
 ghost use Rattle.batch.specs.Layout.{tokenWidth};
 ghost use Rattle.batch.specs.Simple.{firstKind, startsOperator, IsTable, IsKeywords, Gives};
 
@@ -52,8 +52,8 @@ fn delimiter(
         × (to + tokenWidth ≤ length (now tokens)) ⌝ }
     ensures { λ r. ⌜ Gives (now (src .entry)) at safe position (now (tokens .entry)) to r (now (tokens .exit)) ⌝ }
 {
-    if kind == token::PERIOD {
-        if firsts[src[at + 1] as usize] != token::IDENT {
+    if kind == kinds::PERIOD {
+        if firsts[src[at + 1] as usize] != kinds::IDENT {
             return none(at);
         }
     }
@@ -77,7 +77,7 @@ fn semicolon(
     requires { ⌜ (at < safe) × (getD (now src) at 0 ≡ 10) × (to + tokenWidth ≤ length (now tokens)) ⌝ }
     ensures { λ r. ⌜ Gives (now (src .entry)) at safe position (now (tokens .entry)) to r (now (tokens .exit)) ⌝ }
 {
-    put_shown(token::SEMICOLON, true, position, at, at, tokens, to);
+    put_shown(kinds::SEMICOLON, true, position, at, at, tokens, to);
     Next {
         found: true,
         place: at,
@@ -103,22 +103,22 @@ pub(crate) fn give_simple(
 {
     let b = src[at];
     let first = firsts[b as usize];
-    if first == token::IDENT {
+    if first == kinds::IDENT {
         return word(src, numbers, kinds, at, safe, position, tokens, to);
     }
-    if first >= token::LPAREN {
+    if first >= kinds::LPAREN {
         return delimiter(src, firsts, at, safe, first, position, tokens, to);
     }
     if b == 10 {
         return semicolon(src, at, safe, position, tokens, to);
     }
-    if first == token::ADD {
+    if first == kinds::ADD {
         return operator(src, at, safe, position, tokens, to);
     }
-    if first == token::INT {
+    if first == kinds::INT {
         return decimal(src, firsts, at, safe, position, tokens, to);
     }
-    if first == token::STRING {
+    if first == kinds::STRING {
         return string(src, at, safe, position, tokens, to);
     }
     none(at)

@@ -26,7 +26,7 @@ fn give_word(
     ensures { λ r. ⌜ (r ≡ record { found = true; place = end; mark = setsMark kind })
         × (now (tokens .exit) ≡ sets (now (tokens .entry)) to (tokenNumbers (wordOf kind position at end))) ⌝ }
 {
-    let text_end = if kind == token::IDENT { end } else { at };
+    let text_end = if kind == kinds::IDENT { end } else { at };
     put_shown(kind, false, position, at, text_end, tokens, to);
     Next {
         found: true,

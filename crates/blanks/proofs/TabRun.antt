@@ -7,11 +7,11 @@ use native.Mathlib.Omega.{arith}
 use lib.Bits.{bitXor}
 use lib.Count.{trailingZeros, trailing-le}
 use lib.ListN.{take, drop, getD}
-use Rattle.lanes.specs.Lanes.{numberOf, lanes}
-use Rattle.lanes.proofs.Numbers.{Bytes}
-use Rattle.lanes.proofs.Each.{small, lanes-self, xor-all}
-use Rattle.lanes.proofs.Trailing.{zeros-run}
-use Rattle.lanes.proofs.Marks.{xor-zero}
+use Rattle.swar.specs.Lanes.{numberOf, lanes}
+use Rattle.swar.proofs.Numbers.{Bytes}
+use Rattle.swar.proofs.Each.{small, lanes-self, xor-all}
+use Rattle.swar.proofs.Trailing.{zeros-run}
+use Rattle.swar.proofs.Marks.{xor-zero}
 use Rattle.blanks.specs.Tabs.{TabsAt}
 
 -- how a byte differs from a tab

@@ -54,7 +54,7 @@ fn skip_bytes(src: &[u8], at: usize, mark: bool) -> Skipped
 fn tabs(src: &[u8], at: usize) -> usize
     ensures { λ r. ⌜ TabsAt (now (src .entry)) at r ⌝ }
 {
-    u64::trailing_zeros(lanes::eight(src, at) ^ 0x0909_0909_0909_0909) as usize / 8
+    u64::trailing_zeros(swar::eight(src, at) ^ 0x0909_0909_0909_0909) as usize / 8
 }
 
 // Skips blanks; a line feed with tabs after it, the start of most lines, takes one step.

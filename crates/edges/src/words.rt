@@ -12,9 +12,9 @@ pub(crate) fn print() {
     kind(b"kind of the first 2 bytes of gone", b"gone", 2);
     kind(b"kind of gone", b"gone", 4);
     kind(b"kind of fallthrough", b"fallthrough", 11);
-    show::number(b"precedence of number 82", token::precedence(82));
-    show::truth(b"keyword 81", token::is_keyword(81));
-    show::truth(b"keyword 82", token::is_keyword(82));
-    show::number(b"name length of 81", token::name(81).len);
-    show::number(b"name length of 82", token::name(82).len);
+    show::number(b"precedence of number 82", kinds::precedence(82));
+    show::truth(b"keyword 81", kinds::is_keyword(81));
+    show::truth(b"keyword 82", kinds::is_keyword(82));
+    show::number(b"name length of 81", kinds::name(81).len);
+    show::number(b"name length of 82", kinds::name(82).len);
 }

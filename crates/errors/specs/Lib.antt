@@ -1,3 +1,4 @@
 pub mod Layout
 pub mod Errors
 pub mod Answers
+pub mod Numbers

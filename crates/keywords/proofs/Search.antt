@@ -13,13 +13,13 @@ use lib.Pow.{areBytes}
 use lib.Seq.{length-take-le, take-all, take-length}
 use Rattle.basics.proofs.Choice.{cond-ind, either, and-split, and-left, and-right}
 use Rattle.basics.proofs.Every.{every-entry}
-use Rattle.lanes.specs.Lanes.{numberOf}
-use Rattle.lanes.proofs.Numbers.{Bytes, bytes-of, bytes-take, number-injective}
-use Rattle.token.specs.Kinds.{IDENT}
-use Rattle.token.specs.Table.{Row, keywords, identToken}
+use Rattle.swar.specs.Lanes.{numberOf}
+use Rattle.swar.proofs.Numbers.{Bytes, bytes-of, bytes-take, number-injective}
+use Rattle.kinds.specs.Kinds.{IDENT}
+use Rattle.kinds.specs.Table.{Row, keywords, identToken}
 use Rattle.keywords.specs.declared.Row.{Row as Coded}
 use Rattle.keywords.specs.Search.{slotOf, slotOfWord, pair, rowIn}
-use Rattle.token.proofs.Table.{none}
+use Rattle.kinds.proofs.Table.{none}
 use Rattle.keywords.proofs.Words.{Known, known, look, keyword-found}
 
 -- the code's row of a keyword

@@ -10,10 +10,10 @@ use borrow.Author.Tests.{eq-eqb, ne-eqb}
 use lib.Dec.{eqb}
 use lib.ListN.{length, getD, set, take, length-set}
 use lib.Seq.{ext-getD, getD-set-same, getD-set-other}
-use Rattle.lanes.specs.Lanes.{numberOf}
-use Rattle.lanes.proofs.Numbers.{Bytes}
-use Rattle.token.specs.Kinds.{IDENT}
-use Rattle.token.specs.Table.{keywords, identToken}
+use Rattle.swar.specs.Lanes.{numberOf}
+use Rattle.swar.proofs.Numbers.{Bytes}
+use Rattle.kinds.specs.Kinds.{IDENT}
+use Rattle.kinds.specs.Table.{keywords, identToken}
 use Rattle.keywords.specs.Search.{slotOf, rowIn, slotsFrom, bySlot, kindIn}
 use Rattle.keywords.proofs.Search.{word-searched}
 

@@ -13,9 +13,9 @@ use Rattle.basics.specs.Spelling.{spelled}
 use Rattle.basics.proofs.Choice.{either, and-left, and-right, true-of}
 use Rattle.basics.proofs.Every.{every-entry}
 use Rattle.basics.proofs.Lists.{same-true}
-use Rattle.token.specs.Kinds.{IDENT, BREAK, FALLTHROUGH, INTERFACE, VAR}
-use Rattle.token.specs.Table.{Row, keywords, kindNamed, identToken}
-use Rattle.token.proofs.Table.{none}
+use Rattle.kinds.specs.Kinds.{IDENT, BREAK, FALLTHROUGH, INTERFACE, VAR}
+use Rattle.kinds.specs.Table.{Row, keywords, kindNamed, identToken}
+use Rattle.kinds.proofs.Table.{none}
 
 -- a word is the name of a row of a list
 pub data Known (w : List ℕ) (rows : List Row) : Type 0 where

@@ -4,9 +4,9 @@ use mathlib.Core.Bool.{cond, _&&_}
 use mathlib.Core.List.{List, [], _∷_}
 use lib.Dec.{eqb, leb}
 use lib.ListN.{length, getD}
-use Rattle.lanes.specs.Lanes.{numberOf}
-use Rattle.token.specs.Kinds.{IDENT}
-use Rattle.token.specs.Table as Table
+use Rattle.swar.specs.Lanes.{numberOf}
+use Rattle.kinds.specs.Kinds.{IDENT}
+use Rattle.kinds.specs.Table as Table
 use Rattle.keywords.specs.declared.Row.{Row}
 
 -- the slot of a number of n bytes: by n and the first two bytes

@@ -1,11 +1,11 @@
 // The kind of a word: one of the 25 keywords, or an identifier.
-use token::*;
+use kinds::*;
 ghost use mathlib.Core.Path.{_≡_};
 ghost use Prim.Native.Nat.{_+_, _-_, _*_, _^_, _≤_, _<_, min};
 ghost use lib.ListN.{length, take};
 ghost use Rattle.basics.specs.Same.{same};
-ghost use Rattle.lanes.specs.Lanes.{numberOf};
-ghost use Rattle.token.specs.Table.{identToken, keywords};
+ghost use Rattle.swar.specs.Lanes.{numberOf};
+ghost use Rattle.kinds.specs.Table.{identToken, keywords};
 ghost use Rattle.keywords.specs.Search.{slotOf, rowIn, bySlot, kindIn};
 
 // Whether two byte strings are the same.
@@ -62,7 +62,7 @@ fn number_of(text: &[u8], n: usize) -> u64
     requires { ⌜ n ≤ 8 ⌝ }
     ensures { λ r. ⌜ r ≡ numberOf (take n (now (text .entry))) ⌝ }
 {
-    lanes::eight(text, 0) & ones(n)
+    swar::eight(text, 0) & ones(n)
 }
 
 // A keyword's kind, and its spelling as a number.

@@ -12,7 +12,7 @@ use Rattle.basics.proofs.Lists.{drop-next}
 use Rattle.utf8.specs.declared.Char.{Char}
 use Rattle.utf8.specs.Chars.{ended, chars, widths, isStray, octets, encode, encoded}
 use Rattle.utf8.proofs.First.{chars-at, chars-end, chars-ascii, low-byte}
-use Rattle.bodies.specs.Body.{isLf, count}
+use Rattle.utf8.specs.Count.{isLf, count}
 
 -- the first n characters are ASCII, and none is a line feed
 abbrev pub Ascii : ℕ → List Char → Type 0

@@ -16,7 +16,7 @@ use Rattle.utf8.specs.Chars.{ended, firstChar, chars, peek}
 use Rattle.utf8.proofs.First.{ascii, ascii-there, there-high, chars-at, chars-end, chars-ascii}
 use Rattle.utf8.proofs.Places.{code-next, test-next}
 use Rattle.digits.specs.Digit.{isDecimal}
-use Rattle.token.specs.Kinds.{EOF}
+use Rattle.kinds.specs.Kinds.{EOF}
 use Rattle.words.specs.Word.{isLetter}
 use Rattle.words.proofs.Words.{letter-high}
 use Rattle.lexer.specs.Lexeme.{Lexeme, bare, insertedSemicolon}

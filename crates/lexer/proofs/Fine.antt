@@ -8,7 +8,7 @@ use native.Mathlib.Omega.{arith}
 use lib.ListN.{length}
 use Rattle.utf8.specs.declared.Char.{Char}
 use Rattle.utf8.proofs.Ends.{Ends}
-use Rattle.token.specs.Kinds.{EOF}
+use Rattle.kinds.specs.Kinds.{EOF}
 use Rattle.lexer.specs.Lexeme.{Lexeme, Shut, shown, insertedSemicolon}
 use Rattle.lexer.proofs.LexLaws.{Moves}
 use Rattle.lexer.proofs.Known.{Known}

@@ -10,8 +10,8 @@ use Rattle.basics.specs.Same.{same}
 use Rattle.basics.proofs.Choice.{cond-ind}
 use Rattle.basics.proofs.Every.{each, each-ind}
 use Rattle.utf8.specs.declared.Char.{Char}
-use Rattle.token.specs.Kinds.{ILLEGAL, EOF, IDENT, STRING}
-use Rattle.token.specs.Table.{Row, keywords, operators, kindNamed, identToken}
+use Rattle.kinds.specs.Kinds.{ILLEGAL, EOF, IDENT, STRING}
+use Rattle.kinds.specs.Table.{Row, keywords, operators, kindNamed, identToken}
 use Rattle.operators.specs.Longest.{longest, operatorOf}
 use Rattle.operators.proofs.Bounds.{longest-ind}
 

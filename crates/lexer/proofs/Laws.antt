@@ -15,7 +15,7 @@ use Rattle.basics.proofs.Choice.{cond-ind}
 use Rattle.utf8.specs.declared.Char.{Char}
 use Rattle.utf8.specs.Chars.{peek}
 use Rattle.utf8.proofs.Ends.{Ends, ends-drop}
-use Rattle.token.specs.Kinds.{EOF}
+use Rattle.kinds.specs.Kinds.{EOF}
 use Rattle.digits.specs.Digit.{isDecimal}
 use Rattle.words.specs.Word.{isLetter}
 use Rattle.blanks.specs.Blank.{isSpace, isBlank, Skip, skip}

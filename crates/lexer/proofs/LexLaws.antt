@@ -7,7 +7,7 @@ use mathlib.Core.Logic.{_≢_, _⊎_}
 use lib.ListN.{length, drop}
 use Rattle.utf8.specs.declared.Char.{Char}
 use Rattle.utf8.proofs.Ends.{Ends}
-use Rattle.token.specs.Kinds.{EOF, SEMICOLON}
+use Rattle.kinds.specs.Kinds.{EOF, SEMICOLON}
 use Rattle.lexer.specs.Lexeme.{Lexeme, taken, Shut, bare, raise}
 
 -- a token reads a character, or it is an inserted semicolon, which only a set mark gives and which clears it

@@ -15,7 +15,7 @@ use Rattle.basics.proofs.Lists.{same-length}
 use Rattle.utf8.specs.declared.Char.{Char}
 use Rattle.utf8.specs.Chars.{ended, chars, octets, encode, encoded}
 use Rattle.utf8.proofs.Places.{place-fits}
-use Rattle.token.specs.Kinds.{STRING}
+use Rattle.kinds.specs.Kinds.{STRING}
 use Rattle.numbers.specs.declared.Number.{Number}
 use Rattle.numbers.specs.declared.Spelling.{Spelling}
 use Rattle.numbers.specs.declared.Spelling.the-variants.{AsRead, LowerPrefix, OctalPrefix, LowerExponent}

@@ -10,7 +10,7 @@ use borrow.Author.Tests.{ne-eqb}
 use Rattle.basics.proofs.Lists.{drop-next, reach}
 use Rattle.utf8.specs.Chars.{chars, widths, isStray}
 use Rattle.utf8.proofs.First.{ascii, chars-ascii}
-use Rattle.bodies.specs.Body.{isLf, isCr, count}
+use Rattle.utf8.specs.Count.{isLf, isCr, count}
 use Rattle.lexer.specs.Lexeme.{Lexeme}
 
 -- a lexeme that stands in the text, after its blanks

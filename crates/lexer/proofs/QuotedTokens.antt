@@ -15,14 +15,14 @@ use Rattle.utf8.specs.declared.Char.{Char}
 use Rattle.utf8.specs.Chars.{ended, chars, widths, isStray, encoded}
 use Rattle.utf8.proofs.First.{ascii, chars-le}
 use Rattle.utf8.proofs.Places.{place-fits}
-use Rattle.token.specs.Kinds.{ILLEGAL, CHAR, STRING}
+use Rattle.kinds.specs.Kinds.{ILLEGAL, CHAR, STRING}
 use Rattle.quotes.specs.declared.Quoted.{Quoted}
 use Rattle.quotes.specs.Body.{Body, body, quotedAt, placed as bodyPlaced}
 use Rattle.quotes.proofs.Bodies.{strays-fit, closed-sound}
 use Rattle.quotes.proofs.Local.{body-bound, body-no-lf}
 use Rattle.quotes.proofs.Shown.{straysIn, body-strays, encoded-length, encoded-differs}
 use Rattle.quotes.proofs.Counts.{value-differs}
-use Rattle.bodies.specs.Body.{isLf, count}
+use Rattle.utf8.specs.Count.{isLf, count}
 use Rattle.lexer.specs.declared.lexed.Text.the-variants.{AsRead}
 use Rattle.lexer.specs.declared.lexed.Value.{Value}
 use Rattle.lexer.specs.declared.lexed.Value.the-variants.{Empty as NoValue, Interpreted}

@@ -14,8 +14,8 @@ use Rattle.utf8.specs.declared.Char.{Char}
 use Rattle.utf8.specs.Chars.{peek, encoded}
 use Rattle.utf8.proofs.Ends.{Ends, ends-tail, ends-some, peek-append}
 use Rattle.utf8.proofs.Runs.{run-bound, run-local}
-use Rattle.token.specs.Kinds.{ILLEGAL, EOF, IDENT, COMMENT}
-use Rattle.token.specs.Table.{identToken}
+use Rattle.kinds.specs.Kinds.{ILLEGAL, EOF, IDENT, COMMENT}
+use Rattle.kinds.specs.Table.{identToken}
 use Rattle.digits.specs.Digit.{isDecimal}
 use Rattle.words.specs.Word.{isLetter, isWord, wordLen}
 use Rattle.words.proofs.Words.{word-run, feed-no-word}
@@ -24,10 +24,10 @@ use Rattle.numbers.proofs.Local.{number-local}
 use Rattle.numbers.proofs.Tested.{number-within, number-kind, number-some}
 use Rattle.quotes.specs.Body.{Body, body}
 use Rattle.quotes.proofs.Local.{body-bound, body-local}
-use Rattle.bodies.specs.Span.{toStop, toStarSlash}
-use Rattle.bodies.specs.Line.{endsLine}
-use Rattle.bodies.proofs.Spans.{stop-spanned, slash-spanned, stop-local, slash-local, line-closed, stop-left, slash-left}
-use Rattle.bodies.proofs.LineEnds.{ends-local}
+use Rattle.spans.specs.Span.{toStop, toStarSlash}
+use Rattle.spans.specs.Line.{endsLine}
+use Rattle.spans.proofs.Spans.{stop-spanned, slash-spanned, stop-local, slash-local, line-closed, stop-left, slash-left}
+use Rattle.spans.proofs.LineEnds.{ends-local}
 use Rattle.operators.specs.Longest.{operatorOf}
 use Rattle.operators.proofs.Bounds.{operator-bound, operator-local, operator-none}
 use Rattle.lexer.specs.Lexeme.{Lexeme, bare, insertedSemicolon, setsMark}

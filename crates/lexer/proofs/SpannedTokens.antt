@@ -11,14 +11,16 @@ use Rattle.utf8.specs.declared.Char.{Char}
 use Rattle.utf8.specs.Chars.{chars, peek, widths, isStray}
 use Rattle.utf8.proofs.First.{chars-le}
 use Rattle.utf8.proofs.Places.{place-fits}
-use Rattle.token.specs.Kinds.{STRING, COMMENT}
-use Rattle.bodies.specs.declared.body.Body.{Body}
-use Rattle.bodies.specs.Span.{Span, toStop, toStarSlash}
-use Rattle.bodies.specs.Body.{isCr, count, rawInside, bodyOf, clean}
-use Rattle.bodies.proofs.Spans.{stop-spanned, slash-spanned}
-use Rattle.bodies.proofs.Counts.{count-fits, stop-inside}
-use Rattle.bodies.specs.Line.{endsLine}
-use Rattle.bodies.proofs.Texts.{clean-length, clean-differs, clean-fed}
+use Rattle.kinds.specs.Kinds.{STRING, COMMENT}
+use Rattle.spans.specs.declared.body.Body.{Body}
+use Rattle.spans.specs.Span.{Span, toStop, toStarSlash}
+use Rattle.utf8.specs.Count.{isCr, count}
+use Rattle.spans.specs.Body.{rawInside, bodyOf, clean}
+use Rattle.spans.proofs.Spans.{stop-spanned, slash-spanned}
+use Rattle.utf8.proofs.Count.{count-fits}
+use Rattle.spans.proofs.Counts.{stop-inside}
+use Rattle.spans.specs.Line.{endsLine}
+use Rattle.spans.proofs.Texts.{clean-length, clean-differs, clean-fed}
 use Rattle.lexer.specs.declared.lexed.Text.{Text}
 use Rattle.lexer.specs.declared.lexed.Text.the-variants.{WithoutCr, WithLf}
 use Rattle.lexer.specs.declared.lexed.Value.{Value}

@@ -20,8 +20,8 @@ use Rattle.utf8.proofs.First.{chars-at, charAt-in, chars-le, first-fits}
 use Rattle.utf8.proofs.Places.{ascii-only, code-there}
 use Rattle.utf8.proofs.Runs.{run-bound, run-passes, run-no-feed}
 use Rattle.utf8.proofs.Encoding.{first-coded}
-use Rattle.token.specs.Kinds.{ILLEGAL, IDENT, STRING}
-use Rattle.token.specs.Table.{operators, identToken}
+use Rattle.kinds.specs.Kinds.{ILLEGAL, IDENT, STRING}
+use Rattle.kinds.specs.Table.{operators, identToken}
 use Rattle.words.specs.Word.{isWord, wordLen}
 use Rattle.words.proofs.Words.{word-high, word-run, feed-no-word}
 use Rattle.quotes.proofs.Places.{stray-there}

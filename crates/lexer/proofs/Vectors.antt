@@ -5,8 +5,8 @@ use mathlib.Core.Bool.{Bool, true, false}
 use Rattle.basics.specs.Same.{same}
 use Rattle.basics.specs.Spelling.{spelled}
 use Rattle.utf8.specs.Chars.{charsFrom, chars, firstChar, octets, encode}
-use Rattle.token.specs.Kinds.{ILLEGAL, EOF, COMMENT, IDENT, INT, FOR, DEFINE}
-use Rattle.token.specs.Table.{keywords, operators, kindNamed}
+use Rattle.kinds.specs.Kinds.{ILLEGAL, EOF, COMMENT, IDENT, INT, FOR, DEFINE}
+use Rattle.kinds.specs.Table.{keywords, operators, kindNamed}
 use Rattle.digits.specs.Digit.{digitVal}
 use Rattle.words.specs.Word.{isLetter, isWord, wordLen}
 use Rattle.blanks.specs.Blank.{isSpace, isBlank, skip}
@@ -17,9 +17,9 @@ use Rattle.numbers.specs.Spelling.{numberText}
 use Rattle.quotes.specs.Numeral.{numeral}
 use Rattle.quotes.specs.Escape.{letter, byteOf, octalEscape, escapeOf}
 use Rattle.quotes.specs.Body.{bodyFrom}
-use Rattle.bodies.specs.Span.{toStarSlash}
-use Rattle.bodies.specs.Body.{clean}
-use Rattle.bodies.specs.Line.{blankToEnd, endsLine}
+use Rattle.spans.specs.Span.{toStarSlash}
+use Rattle.spans.specs.Body.{clean}
+use Rattle.spans.specs.Line.{blankToEnd, endsLine}
 use Rattle.lexer.specs.Lexeme.{Lexeme, shown, bare, insertedSemicolon, raise}
 use Rattle.lexer.specs.Words.{wordOf, lexNumber}
 use Rattle.lexer.specs.Quotes.{lexString, lexChar}

@@ -6,10 +6,10 @@ use lib.Dec.{eqb}
 use lib.ListN.{take, drop}
 use Rattle.utf8.specs.declared.Char.{Char}
 use Rattle.utf8.specs.Chars.{peek}
-use Rattle.token.specs.Kinds.{COMMENT}
-use Rattle.bodies.specs.Span.{Span, toStop, toStarSlash}
-use Rattle.bodies.specs.Body.{clean}
-use Rattle.bodies.specs.Line.{endsLine}
+use Rattle.kinds.specs.Kinds.{COMMENT}
+use Rattle.spans.specs.Span.{Span, toStop, toStarSlash}
+use Rattle.spans.specs.Body.{clean}
+use Rattle.spans.specs.Line.{endsLine}
 use Rattle.lexer.specs.Lexeme.{Lexeme, shown, insertedSemicolon}
 
 -- "A `//` comment reads its LF, and its text always ends in LF."

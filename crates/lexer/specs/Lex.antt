@@ -6,7 +6,7 @@ use lib.Dec.{eqb}
 use lib.ListN.{take, drop}
 use Rattle.utf8.specs.declared.Char.{Char}
 use Rattle.utf8.specs.Chars.{peek, encoded}
-use Rattle.token.specs.Kinds.{ILLEGAL, EOF}
+use Rattle.kinds.specs.Kinds.{ILLEGAL, EOF}
 use Rattle.digits.specs.Digit.{isDecimal}
 use Rattle.words.specs.Word.{isLetter}
 use Rattle.blanks.specs.Blank.{skip}

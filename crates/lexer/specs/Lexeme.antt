@@ -3,8 +3,8 @@ use Prim.Native.Nat.{ℕ, _+_}
 use mathlib.Core.Bool.{Bool, true, false}
 use mathlib.Core.List.{List, [], _∷_}
 use mathlib.Core.Logic.{_≢_}
-use Rattle.token.specs.Kinds.{SEMICOLON, IDENT, INC, DEC, RPAREN, RBRACK, RBRACE, BREAK, CONTINUE, FALLTHROUGH, RETURN}
-use Rattle.token.specs.Precedence.{among}
+use Rattle.kinds.specs.Kinds.{SEMICOLON, IDENT, INC, DEC, RPAREN, RBRACK, RBRACE, BREAK, CONTINUE, FALLTHROUGH, RETURN}
+use Rattle.kinds.specs.Precedence.{among}
 
 pub record Lexeme : Type 0 where
   -- blanks skipped before it, and characters read

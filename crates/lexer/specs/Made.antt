@@ -2,11 +2,11 @@
 use Prim.Native.Nat.{ℕ, _+_, _-_}
 use mathlib.Core.Bool.{Bool, true, false, not, _||_}
 use lib.Dec.{eqb}
-use Rattle.token.specs.Kinds.{SEMICOLON}
+use Rattle.kinds.specs.Kinds.{SEMICOLON}
 use Rattle.numbers.specs.declared.Spelling.{Spelling}
 use Rattle.numbers.specs.declared.Spelling.the-variants.{AsRead as Same, LowerPrefix, OctalPrefix, LowerExponent}
 use Rattle.quotes.specs.declared.Quoted.{Quoted}
-use Rattle.bodies.specs.declared.body.Body.{Body}
+use Rattle.spans.specs.declared.body.Body.{Body}
 use Rattle.lexer.specs.declared.lexed.Text.{Text}
 use Rattle.lexer.specs.declared.lexed.Text.the-variants.{Empty, AsRead}
 use Rattle.lexer.specs.declared.lexed.Value.{Value}

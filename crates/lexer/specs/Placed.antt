@@ -7,11 +7,12 @@ use lib.ListN.{length, take, drop}
 use Rattle.basics.specs.Same.{same}
 use Rattle.utf8.specs.declared.Char.{Char}
 use Rattle.utf8.specs.Chars.{chars, widths, isStray, encoded}
-use Rattle.token.specs.Kinds.{STRING}
+use Rattle.kinds.specs.Kinds.{STRING}
 use Rattle.numbers.specs.Spelling.{numberText}
 use Rattle.quotes.specs.Body.{body}
-use Rattle.bodies.specs.Span.{toStop}
-use Rattle.bodies.specs.Body.{rawInside, isLf, count, clean}
+use Rattle.spans.specs.Span.{toStop}
+use Rattle.utf8.specs.Count.{isLf, count}
+use Rattle.spans.specs.Body.{rawInside, clean}
 use Rattle.lexer.specs.declared.lexed.Text.{Text}
 use Rattle.lexer.specs.declared.lexed.Text.the-variants.{Empty, AsRead, Number, WithoutCr, WithLf}
 use Rattle.lexer.specs.declared.lexed.Value.{Value}

@@ -6,11 +6,11 @@ use lib.Dec.{eqb}
 use lib.ListN.{take, drop}
 use Rattle.utf8.specs.declared.Char.{Char}
 use Rattle.utf8.specs.Chars.{encoded}
-use Rattle.token.specs.Kinds.{CHAR, STRING}
+use Rattle.kinds.specs.Kinds.{CHAR, STRING}
 use Rattle.quotes.specs.Body.{Body, body}
 use Rattle.quotes.specs.Literal.{stringKind, charKind, charError}
-use Rattle.bodies.specs.Span.{Span, toStop}
-use Rattle.bodies.specs.Body.{rawInside, clean}
+use Rattle.spans.specs.Span.{Span, toStop}
+use Rattle.spans.specs.Body.{rawInside, clean}
 use Rattle.lexer.specs.Lexeme.{Lexeme}
 
 -- a string that is not closed has no value

@@ -6,8 +6,8 @@ use lib.Dec.{eqb}
 use lib.ListN.{take}
 use Rattle.utf8.specs.declared.Char.{Char}
 use Rattle.utf8.specs.Chars.{encoded}
-use Rattle.token.specs.Kinds.{IDENT}
-use Rattle.token.specs.Table.{identToken}
+use Rattle.kinds.specs.Kinds.{IDENT}
+use Rattle.kinds.specs.Table.{identToken}
 use Rattle.words.specs.Word.{wordLen}
 use Rattle.numbers.specs.Number.{number}
 use Rattle.numbers.specs.Spelling.{numberText}

@@ -16,7 +16,7 @@ ghost use Rattle.lexer.specs.Made.{spannedAs};
 
 // A token at a place by its body, which stands after `opening` characters; its text is without CR, and its value is not counted yet.
 fn spanned(
-    b: bodies::Body,
+    b: spans::Body,
     at: usize,
     opening: usize,
     kind: u8,
@@ -42,8 +42,8 @@ pub(crate) fn lex_raw(src: &[u8], at: usize) -> Lexed
     requires { ⌜ getD (now src) at 0 ≡ 96 ⌝ }
     ensures { λ r. ⌜ said (now (src .entry)) at r ≡ placed (now (src .entry)) at (lexRaw (chars (drop at (now (src .entry))))) ⌝ }
 {
-    let b = bodies::raw_body(src, at + 1);
-    let mut x = spanned(b, at, 1, token::STRING, true, Text::WithoutCr, Value::Raw);
+    let b = spans::raw_body(src, at + 1);
+    let mut x = spanned(b, at, 1, kinds::STRING, true, Text::WithoutCr, Value::Raw);
     x.value_differs = x.text_differs;
     if b.closed {
         x.value_bytes = x.text_bytes - 2;
@@ -59,19 +59,19 @@ fn line_comment(src: &[u8], at: usize, mark: bool) -> Lexed
     requires { ⌜ (getD (now src) at 0 ≡ 47) × (getD (now src) (at + 1) 0 ≡ 47) ⌝ }
     ensures { λ r. ⌜ said (now (src .entry)) at r ≡ placed (now (src .entry)) at (comment mark (chars (drop at (now (src .entry))))) ⌝ }
 {
-    let b = bodies::line_body(src, at + 2);
+    let b = spans::line_body(src, at + 2);
     if b.closed {
         return spanned(
             b,
             at,
             2,
-            token::COMMENT,
+            kinds::COMMENT,
             mark,
             Text::WithoutCr,
             Value::Empty,
         );
     }
-    let mut x = spanned(b, at, 2, token::COMMENT, mark, Text::WithLf, Value::Empty);
+    let mut x = spanned(b, at, 2, kinds::COMMENT, mark, Text::WithLf, Value::Empty);
     x.text_bytes = x.text_bytes + 1;
     x.text_differs = true;
     x
@@ -82,12 +82,12 @@ fn general_comment(src: &[u8], at: usize, mark: bool) -> Lexed
     requires { ⌜ (getD (now src) at 0 ≡ 47) × (getD (now src) (at + 1) 0 ≡ 42) ⌝ }
     ensures { λ r. ⌜ said (now (src .entry)) at r ≡ placed (now (src .entry)) at (comment mark (chars (drop at (now (src .entry))))) ⌝ }
 {
-    let b = bodies::block_body(src, at + 2);
+    let b = spans::block_body(src, at + 2);
     let mut x = spanned(
         b,
         at,
         2,
-        token::COMMENT,
+        kinds::COMMENT,
         mark,
         Text::WithoutCr,
         Value::Empty,
@@ -110,7 +110,7 @@ pub(crate) fn lex_comment(src: &[u8], at: usize, second: u8, mark: bool) -> Lexe
         return line_comment(src, at, mark);
     }
     if mark {
-        if bodies::ends_line(src, at + 2) {
+        if spans::ends_line(src, at + 2) {
             return inserted_semicolon(at);
         }
     }

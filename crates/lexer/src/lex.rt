@@ -26,7 +26,7 @@ fn lex_illegal(src: &[u8], at: usize, mark: bool) -> Lexed
     ensures { λ r. ⌜ said (now (src .entry)) at r ≡ placed (now (src .entry)) at (lexIllegal mark 1 (chars (drop at (now (src .entry))))) ⌝ }
 {
     let c = reader::char_from(src, at);
-    let mut x = shown(token::ILLEGAL, at, at + c.width, mark);
+    let mut x = shown(kinds::ILLEGAL, at, at + c.width, mark);
     x.chars = 1;
     if utf8::is_stray(c) {
         x.strays = 1;
@@ -42,7 +42,7 @@ fn lex_operator(src: &[u8], at: usize, mark: bool) -> Lexed
 {
     let o = operators::scan_operator(src, at);
     let kind = o.kind;
-    if kind == token::ILLEGAL {
+    if kind == kinds::ILLEGAL {
         return lex_illegal(src, at, mark);
     }
     bare(kind, at, at + o.len, sets_mark(kind))
@@ -100,7 +100,7 @@ fn lex_other(src: &[u8], at: usize, second: u8, mark: bool) -> Lexed
         return lex_comment(src, at, second, mark);
     }
     if is_two_points(src, at) {
-        return shown(token::ILLEGAL, at, at + 2, mark);
+        return shown(kinds::ILLEGAL, at, at + 2, mark);
     }
     lex_operator(src, at, mark)
 }
@@ -113,7 +113,7 @@ pub fn lex_token(src: &[u8], at: usize, mark: bool) -> Lexed
         if mark {
             return inserted_semicolon(at);
         }
-        return bare(token::EOF, at, at, false);
+        return bare(kinds::EOF, at, at, false);
     }
     let first = src[at];
     let second = utf8::byte(src, at + 1);

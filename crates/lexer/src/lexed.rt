@@ -97,7 +97,7 @@ pub(crate) fn shown(kind: u8, at: usize, end: usize, mark: bool) -> Lexed
 pub(crate) fn inserted_semicolon(at: usize) -> Lexed
     ensures { λ r. ⌜ r ≡ insertedAt at ⌝ }
 {
-    let mut x = bare(token::SEMICOLON, at, at, false);
+    let mut x = bare(kinds::SEMICOLON, at, at, false);
     x.inserted = true;
     x
 }
@@ -107,16 +107,16 @@ pub(crate) fn sets_mark(kind: u8) -> bool
     ensures { λ r. ⌜ r ≡ setsMark kind ⌝ }
 {
     match kind {
-        token::IDENT
-        | token::INC
-        | token::DEC
-        | token::RPAREN
-        | token::RBRACK
-        | token::RBRACE
-        | token::BREAK
-        | token::CONTINUE
-        | token::FALLTHROUGH
-        | token::RETURN => true,
+        kinds::IDENT
+        | kinds::INC
+        | kinds::DEC
+        | kinds::RPAREN
+        | kinds::RBRACK
+        | kinds::RBRACE
+        | kinds::BREAK
+        | kinds::CONTINUE
+        | kinds::FALLTHROUGH
+        | kinds::RETURN => true,
         _ => false,
     }
 }

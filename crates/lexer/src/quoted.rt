@@ -33,9 +33,9 @@ pub(crate) fn lex_string(src: &[u8], at: usize) -> Lexed
 {
     let q = quotes::string_body(src, at + 1);
     if !q.closed {
-        return literal(q, at, token::ILLEGAL, Value::Empty);
+        return literal(q, at, kinds::ILLEGAL, Value::Empty);
     }
-    let mut x = literal(q, at, token::STRING, Value::Interpreted);
+    let mut x = literal(q, at, kinds::STRING, Value::Interpreted);
     x.value_bytes = q.bytes;
     x.value_differs = q.escaped | x.text_differs;
     x
@@ -48,14 +48,14 @@ pub(crate) fn lex_char(src: &[u8], at: usize) -> Lexed
 {
     let q = quotes::char_body(src, at + 1);
     if !q.closed {
-        return literal(q, at, token::ILLEGAL, Value::Empty);
+        return literal(q, at, kinds::ILLEGAL, Value::Empty);
     }
     if q.count != 1 {
-        let mut x = literal(q, at, token::ILLEGAL, Value::Empty);
+        let mut x = literal(q, at, kinds::ILLEGAL, Value::Empty);
         x.error = 13;
         return x;
     }
-    let mut x = literal(q, at, token::CHAR, Value::Empty);
+    let mut x = literal(q, at, kinds::CHAR, Value::Empty);
     x.code = q.code;
     x
 }

@@ -17,7 +17,7 @@ pub(crate) fn lex_word(src: &[u8], at: usize) -> Lexed
 {
     let end = words::word_end(src, at);
     let kind = keywords::ident_token(&src[at..], end - at);
-    if kind == token::IDENT {
+    if kind == kinds::IDENT {
         return shown(kind, at, end, true);
     }
     bare(kind, at, end, sets_mark(kind))

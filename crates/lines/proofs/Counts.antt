@@ -10,8 +10,8 @@ use lib.ListN.{length, length-append}
 use borrow.Author.Tests.{lt-ltb}
 use Rattle.utf8.specs.declared.Char.{Char}
 use Rattle.position.specs.Lines.{lineStart}
-use Rattle.bodies.specs.Body.{isLf, one, count}
-use Rattle.bodies.proofs.Counts.{count-append}
+use Rattle.utf8.specs.Count.{isLf, one, count}
+use Rattle.utf8.proofs.Count.{count-append}
 use Rattle.lines.specs.Starts.{readLines, startsRead}
 use Rattle.lines.proofs.Writing.{starts-past}
 use Rattle.lines.proofs.Reading.{starts-append, read-new}

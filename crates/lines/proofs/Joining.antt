@@ -14,7 +14,7 @@ use Rattle.basics.proofs.Lists.{getD-any}
 use Rattle.basics.proofs.Tests.{same-lt}
 use Rattle.utf8.specs.declared.Char.{Char}
 use Rattle.utf8.proofs.Ends.{Ends}
-use Rattle.bodies.specs.Body.{isLf, count}
+use Rattle.utf8.specs.Count.{isLf, count}
 use Rattle.position.specs.Lines.{lineOf, lineStart, startOf, columnOf}
 use Rattle.position.proofs.Lines.{AtMost, FromZero, line-count, line-joined, column-joined}
 use Rattle.lines.specs.Starts.{recorded, readLines}

@@ -14,7 +14,7 @@ use borrow.Author.Tests.{lt-ltb, le-ltb, eq-eqb, ne-eqb}
 use Rattle.utf8.specs.declared.Char.{Char}
 use Rattle.utf8.specs.Chars.{charAt, chars}
 use Rattle.utf8.proofs.First.{chars-end, chars-ascii, there-chars}
-use Rattle.bodies.proofs.Chars.{code-at}
+use Rattle.utf8.proofs.Count.{code-at}
 use Rattle.lines.specs.Starts.{startsRead}
 
 -- ---- past the table's end nothing is written

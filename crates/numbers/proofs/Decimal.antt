@@ -13,7 +13,7 @@ use Rattle.basics.specs.Between.{between}
 use Rattle.basics.proofs.Choice.{cond-ind, either, between-true}
 use Rattle.basics.proofs.Lists.{reach}
 use Rattle.utf8.specs.Chars.{chars}
-use Rattle.token.specs.Kinds.{INT}
+use Rattle.kinds.specs.Kinds.{INT}
 use Rattle.digits.specs.Digit.{digitVal, isDecimal}
 use Rattle.numbers.specs.declared.Number.{Number}
 use Rattle.numbers.specs.declared.Spelling.the-variants.{AsRead}

@@ -13,7 +13,7 @@ use Rattle.basics.proofs.Choice.{either}
 use Rattle.utf8.specs.declared.Char.{Char}
 use Rattle.utf8.specs.Chars.{peek}
 use Rattle.utf8.proofs.Ends.{Ends, ends-tail, ends-some, ends-drop, peek-append, more-behind}
-use Rattle.token.specs.Kinds.{ILLEGAL, INT, FLOAT, IMAG}
+use Rattle.kinds.specs.Kinds.{ILLEGAL, INT, FLOAT, IMAG}
 use Rattle.digits.specs.Digit.{digitVal, isDecimal}
 use Rattle.numbers.specs.declared.Spelling.{Spelling}
 use Rattle.numbers.specs.declared.Spelling.the-variants.{AsRead, LowerPrefix, OctalPrefix, LowerExponent}

@@ -8,7 +8,7 @@ use lib.ListN.{getD, drop}
 use borrow.Author.Tests.{eq-eqb, ne-eqb}
 use Rattle.utf8.specs.Chars.{chars, peek}
 use Rattle.utf8.proofs.Places.{code-next}
-use Rattle.token.specs.Kinds.{ILLEGAL, IMAG}
+use Rattle.kinds.specs.Kinds.{ILLEGAL, IMAG}
 use Rattle.numbers.specs.Number.{withoutI, number, numberAt}
 use Rattle.numbers.proofs.Runs.{plain-place}
 use Rattle.numbers.proofs.Tested.{without-read}

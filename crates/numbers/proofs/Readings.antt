@@ -12,7 +12,7 @@ use borrow.Author.Tests.{eq-eqb, ne-eqb}
 use Rattle.basics.proofs.Choice.{above-it}
 use Rattle.utf8.specs.Chars.{chars, peek}
 use Rattle.utf8.proofs.Places.{code-next, test-next}
-use Rattle.token.specs.Kinds.{ILLEGAL, INT, FLOAT}
+use Rattle.kinds.specs.Kinds.{ILLEGAL, INT, FLOAT}
 use Rattle.digits.specs.Digit.{isDecimal}
 use Rattle.numbers.specs.declared.Spelling.{Spelling}
 use Rattle.numbers.specs.declared.Spelling.the-variants.{AsRead, OctalPrefix, LowerExponent}

@@ -15,8 +15,8 @@ use Rattle.basics.specs.Between.{between}
 use Rattle.basics.proofs.Choice.{cond-ind, either, between-true, in-between}
 use Rattle.utf8.specs.declared.Char.{Char}
 use Rattle.utf8.specs.Chars.{ended, peek}
-use Rattle.token.specs.Kinds.{ILLEGAL, INT, FLOAT, IMAG}
-use Rattle.token.specs.Precedence.{among}
+use Rattle.kinds.specs.Kinds.{ILLEGAL, INT, FLOAT, IMAG}
+use Rattle.kinds.specs.Precedence.{among}
 use Rattle.digits.specs.Digit.{digitVal, isDecimal}
 use Rattle.numbers.specs.declared.Spelling.{Spelling}
 use Rattle.numbers.specs.declared.Spelling.the-variants.{AsRead, LowerPrefix, OctalPrefix, LowerExponent}

@@ -6,7 +6,7 @@ use lib.Dec.{leb, eqb}
 use lib.ListN.{drop}
 use Rattle.utf8.specs.declared.Char.{Char}
 use Rattle.utf8.specs.Chars.{peek}
-use Rattle.token.specs.Kinds.{ILLEGAL, INT, FLOAT, IMAG}
+use Rattle.kinds.specs.Kinds.{ILLEGAL, INT, FLOAT, IMAG}
 use Rattle.digits.specs.Digit.{isDecimal}
 use Rattle.numbers.specs.declared.Number.{Number}
 use Rattle.numbers.specs.declared.Spelling.{Spelling}

@@ -10,7 +10,7 @@ ghost use Rattle.utf8.specs.Chars.{chars, peek};
 ghost use Rattle.digits.specs.Digit.{isDecimal};
 ghost use Rattle.numbers.specs.Number.{numberAt, exponentDigits, exponent, finish, fraction, decimalRest, decimal, prefixed, bareZero, leadingZero, withoutI, number};
 ghost use Rattle.numbers.specs.Run.{strictRun};
-ghost use Rattle.token.specs.Kinds.{ILLEGAL};
+ghost use Rattle.kinds.specs.Kinds.{ILLEGAL};
 
 // How the text of a number differs from what was read.
 pub enum Spelling {
@@ -46,7 +46,7 @@ fn illegal(error: u8, end: usize, spelling: Spelling) -> Number
     ensures { λ r. ⌜ r ≡ record { kind = ILLEGAL; end = end; error = error; spelling = spelling } ⌝ }
 {
     Number {
-        kind: token::ILLEGAL,
+        kind: kinds::ILLEGAL,
         end,
         error,
         spelling,
@@ -65,7 +65,7 @@ fn exponent_digits(src: &[u8], at: usize, spelling: Spelling) -> Number
     if end == at {
         return illegal(5, end, spelling);
     }
-    good(token::FLOAT, end, spelling)
+    good(kinds::FLOAT, end, spelling)
 }
 
 // After the e: a sign, if there is one, and digits.
@@ -105,7 +105,7 @@ fn scan_fraction(src: &[u8], at: usize) -> Number
     if d.misplaced {
         return illegal(4, end, Spelling::AsRead);
     }
-    finish_number(src, end, token::FLOAT)
+    finish_number(src, end, kinds::FLOAT)
 }
 
 // After the digits of a decimal number.
@@ -115,7 +115,7 @@ fn decimal_rest(src: &[u8], at: usize) -> Number
     if utf8::byte(src, at) == 46 {
         return scan_fraction(src, at + 1);
     }
-    finish_number(src, at, token::INT)
+    finish_number(src, at, kinds::INT)
 }
 
 fn scan_decimal(src: &[u8], at: usize) -> Number
@@ -155,7 +155,7 @@ fn scan_prefixed(src: &[u8], at: usize, base: u8, error: u8, spelling: Spelling)
     if goes_on(src, end, base) {
         return illegal(error, end, spelling);
     }
-    good(token::INT, end, spelling)
+    good(kinds::INT, end, spelling)
 }
 
 // A 0 without a prefix: octal before a digit, else decimal.
@@ -206,11 +206,11 @@ pub fn scan_number(src: &[u8], at: usize) -> Number
     let n = scan_number_without_i(src, at);
     let end = n.end;
     let spelling = n.spelling;
-    if n.kind == token::ILLEGAL {
+    if n.kind == kinds::ILLEGAL {
         return n;
     }
     if utf8::byte(src, end) == 105 {
-        return good(token::IMAG, end + 1, spelling);
+        return good(kinds::IMAG, end + 1, spelling);
     }
     n
 }

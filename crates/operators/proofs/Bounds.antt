@@ -15,8 +15,8 @@ use Rattle.basics.proofs.Every.{each, each-ind}
 use Rattle.basics.proofs.Lists.{same-true}
 use Rattle.utf8.specs.declared.Char.{Char}
 use Rattle.utf8.proofs.Ends.{Ends, ends-tail, ends-some}
-use Rattle.token.specs.Kinds.{ILLEGAL, ADD, COLON}
-use Rattle.token.specs.Table.{Row, operators}
+use Rattle.kinds.specs.Kinds.{ILLEGAL, ADD, COLON}
+use Rattle.kinds.specs.Table.{Row, operators}
 use Rattle.operators.specs.declared.Operator.{Operator}
 use Rattle.operators.specs.Longest.{begins, op, none, longest, operatorOf}
 

@@ -14,7 +14,7 @@ use Rattle.basics.proofs.Every.{each, each-ind}
 use Rattle.utf8.specs.Chars.{chars}
 use Rattle.utf8.proofs.First.{chars-at, chars-end, chars-ascii}
 use Rattle.utf8.proofs.Places.{code-there}
-use Rattle.token.specs.Table.{Row, operators}
+use Rattle.kinds.specs.Table.{Row, operators}
 use Rattle.operators.specs.declared.Operator.{Operator}
 use Rattle.operators.specs.Longest.{begins, op, none, longer, longest, operatorOf}
 

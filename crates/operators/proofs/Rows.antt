@@ -10,9 +10,9 @@ use Rattle.basics.proofs.Choice.{true-of}
 use Rattle.basics.proofs.Every.{each, each-ind}
 use Rattle.utf8.specs.Chars.{chars}
 use Rattle.utf8.proofs.First.{chars-end}
-use Rattle.token.specs.Kinds.{LSS, LEQ, SHL, SHL-ASSIGN, ARROW, AND, AND-ASSIGN, AND-NOT, AND-NOT-ASSIGN, LAND, GTR, GEQ, SHR, SHR-ASSIGN, PERIOD, ELLIPSIS}
-use Rattle.token.specs.Table.{Row, operators}
-use Rattle.token.specs.Table as table
+use Rattle.kinds.specs.Kinds.{LSS, LEQ, SHL, SHL-ASSIGN, ARROW, AND, AND-ASSIGN, AND-NOT, AND-NOT-ASSIGN, LAND, GTR, GEQ, SHR, SHR-ASSIGN, PERIOD, ELLIPSIS}
+use Rattle.kinds.specs.Table.{Row, operators}
+use Rattle.kinds.specs.Table as table
 use Rattle.operators.specs.Longest.{begins, op, none, longest, operatorOf}
 use Rattle.operators.specs.Second.{lessBy, greaterBy, andBy, periodBy}
 use Rattle.operators.proofs.Leading.{best, starts, leads, among, best-among, table-bytes}

@@ -5,8 +5,8 @@ use mathlib.Core.List.{List, [], _∷_}
 use lib.Dec.{leb, eqb}
 use lib.ListN.{length}
 use Rattle.utf8.specs.declared.Char.{Char}
-use Rattle.token.specs.Kinds.{ILLEGAL}
-use Rattle.token.specs.Table.{Row, operators}
+use Rattle.kinds.specs.Kinds.{ILLEGAL}
+use Rattle.kinds.specs.Table.{Row, operators}
 use Rattle.operators.specs.declared.Operator.{Operator}
 
 -- whether the characters begin with the codes of a spelling

@@ -2,7 +2,7 @@
 use Prim.Native.Nat.{ℕ}
 use mathlib.Core.Bool.{cond, _&&_}
 use lib.Dec.{eqb}
-use Rattle.token.specs.Kinds.{LSS, LEQ, SHL, SHL-ASSIGN, ARROW, AND, AND-ASSIGN, AND-NOT, AND-NOT-ASSIGN, LAND, GTR, GEQ, SHR, SHR-ASSIGN, PERIOD, ELLIPSIS}
+use Rattle.kinds.specs.Kinds.{LSS, LEQ, SHL, SHL-ASSIGN, ARROW, AND, AND-ASSIGN, AND-NOT, AND-NOT-ASSIGN, LAND, GTR, GEQ, SHR, SHR-ASSIGN, PERIOD, ELLIPSIS}
 use Rattle.operators.specs.declared.Operator.{Operator}
 use Rattle.operators.specs.Longest.{op}
 

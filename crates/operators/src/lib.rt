@@ -59,12 +59,12 @@ fn scan_less(src: &[u8], at: usize) -> Operator
 {
     let b = utf8::byte(src, at);
     if b == 60 {
-        return scan_third(utf8::byte(src, at + 1), token::SHL, token::SHL_ASSIGN);
+        return scan_third(utf8::byte(src, at + 1), kinds::SHL, kinds::SHL_ASSIGN);
     }
     if b == 45 {
-        return op(token::ARROW, 2);
+        return op(kinds::ARROW, 2);
     }
-    scan_switch2(b, token::LSS, token::LEQ)
+    scan_switch2(b, kinds::LSS, kinds::LEQ)
 }
 
 // After a >.
@@ -73,9 +73,9 @@ fn scan_greater(src: &[u8], at: usize) -> Operator
 {
     let b = utf8::byte(src, at);
     if b == 62 {
-        return scan_third(utf8::byte(src, at + 1), token::SHR, token::SHR_ASSIGN);
+        return scan_third(utf8::byte(src, at + 1), kinds::SHR, kinds::SHR_ASSIGN);
     }
-    scan_switch2(b, token::GTR, token::GEQ)
+    scan_switch2(b, kinds::GTR, kinds::GEQ)
 }
 
 // After a &.
@@ -86,11 +86,11 @@ fn scan_and(src: &[u8], at: usize) -> Operator
     if b == 94 {
         return scan_third(
             utf8::byte(src, at + 1),
-            token::AND_NOT,
-            token::AND_NOT_ASSIGN,
+            kinds::AND_NOT,
+            kinds::AND_NOT_ASSIGN,
         );
     }
-    scan_switch3(b, token::AND, token::AND_ASSIGN, 38, token::LAND)
+    scan_switch3(b, kinds::AND, kinds::AND_ASSIGN, 38, kinds::LAND)
 }
 
 // After a point: two more of them or none.
@@ -98,12 +98,12 @@ fn scan_period(src: &[u8], at: usize) -> Operator
     ensures { λ r. ⌜ r ≡ periodBy (getD (now (src .entry)) at 0) (getD (now (src .entry)) (at + 1) 0) ⌝ }
 {
     if utf8::byte(src, at) != 46 {
-        return op(token::PERIOD, 1);
+        return op(kinds::PERIOD, 1);
     }
     if utf8::byte(src, at + 1) != 46 {
-        return op(token::PERIOD, 1);
+        return op(kinds::PERIOD, 1);
     }
-    op(token::ELLIPSIS, 3)
+    op(kinds::ELLIPSIS, 3)
 }
 
 // The operator at a place; where there is none, ILLEGAL of no characters.
@@ -111,33 +111,33 @@ pub fn scan_operator(src: &[u8], at: usize) -> Operator
     ensures { λ r. ⌜ r ≡ operatorOf (chars (drop at (now (src .entry)))) ⌝ }
 {
     if src.len() <= at {
-        return op(token::ILLEGAL, 0);
+        return op(kinds::ILLEGAL, 0);
     }
     let a = src[at];
     let b = utf8::byte(src, at + 1);
     match a {
-        43 => scan_switch3(b, token::ADD, token::ADD_ASSIGN, 43, token::INC),
-        45 => scan_switch3(b, token::SUB, token::SUB_ASSIGN, 45, token::DEC),
-        124 => scan_switch3(b, token::OR, token::OR_ASSIGN, 124, token::LOR),
-        42 => scan_switch2(b, token::MUL, token::MUL_ASSIGN),
-        47 => scan_switch2(b, token::QUO, token::QUO_ASSIGN),
-        37 => scan_switch2(b, token::REM, token::REM_ASSIGN),
-        94 => scan_switch2(b, token::XOR, token::XOR_ASSIGN),
-        33 => scan_switch2(b, token::NOT, token::NEQ),
-        61 => scan_switch2(b, token::ASSIGN, token::EQL),
-        58 => scan_switch2(b, token::COLON, token::DEFINE),
+        43 => scan_switch3(b, kinds::ADD, kinds::ADD_ASSIGN, 43, kinds::INC),
+        45 => scan_switch3(b, kinds::SUB, kinds::SUB_ASSIGN, 45, kinds::DEC),
+        124 => scan_switch3(b, kinds::OR, kinds::OR_ASSIGN, 124, kinds::LOR),
+        42 => scan_switch2(b, kinds::MUL, kinds::MUL_ASSIGN),
+        47 => scan_switch2(b, kinds::QUO, kinds::QUO_ASSIGN),
+        37 => scan_switch2(b, kinds::REM, kinds::REM_ASSIGN),
+        94 => scan_switch2(b, kinds::XOR, kinds::XOR_ASSIGN),
+        33 => scan_switch2(b, kinds::NOT, kinds::NEQ),
+        61 => scan_switch2(b, kinds::ASSIGN, kinds::EQL),
+        58 => scan_switch2(b, kinds::COLON, kinds::DEFINE),
         60 => scan_less(src, at + 1),
         62 => scan_greater(src, at + 1),
         38 => scan_and(src, at + 1),
         46 => scan_period(src, at + 1),
-        40 => op(token::LPAREN, 1),
-        91 => op(token::LBRACK, 1),
-        123 => op(token::LBRACE, 1),
-        44 => op(token::COMMA, 1),
-        41 => op(token::RPAREN, 1),
-        93 => op(token::RBRACK, 1),
-        125 => op(token::RBRACE, 1),
-        59 => op(token::SEMICOLON, 1),
-        _ => op(token::ILLEGAL, 0),
+        40 => op(kinds::LPAREN, 1),
+        91 => op(kinds::LBRACK, 1),
+        123 => op(kinds::LBRACE, 1),
+        44 => op(kinds::COMMA, 1),
+        41 => op(kinds::RPAREN, 1),
+        93 => op(kinds::RBRACK, 1),
+        125 => op(kinds::RBRACE, 1),
+        59 => op(kinds::SEMICOLON, 1),
+        _ => op(kinds::ILLEGAL, 0),
     }
 }

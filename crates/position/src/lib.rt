@@ -83,7 +83,7 @@ impl File {
             return Answer::Refused(refusal::DOES_NOT_FIT);
         }
         if offset > self.size {
-            return Answer::Refused(refusal::POSITION);
+            return Answer::Refused(refusal::NO_POSITION);
         }
         Answer::Gave(self.base + offset)
     }
@@ -98,11 +98,11 @@ impl File {
             return Located::Refused(refusal::DOES_NOT_FIT);
         }
         if p < base {
-            return Located::Refused(refusal::POSITION);
+            return Located::Refused(refusal::NO_POSITION);
         }
         let offset = p - base;
         if offset > self.size {
-            return Located::Refused(refusal::POSITION);
+            return Located::Refused(refusal::NO_POSITION);
         }
         let line = line_of(&table[..lines], offset);
         let column = offset - table[line - 1] + 1;
@@ -124,10 +124,10 @@ impl File {
             return Answer::Refused(refusal::DOES_NOT_FIT);
         }
         if line == 0 {
-            return Answer::Refused(refusal::LINE);
+            return Answer::Refused(refusal::NO_LINE);
         }
         if line > self.lines {
-            return Answer::Refused(refusal::LINE);
+            return Answer::Refused(refusal::NO_LINE);
         }
         let start = table[line - 1];
         if start > offset {

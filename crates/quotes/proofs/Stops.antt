@@ -13,11 +13,11 @@ use lib.Dec.{eqb, ltb}
 use lib.ListN.{length, take, drop, getD}
 use borrow.Author.Tests.{lt-ltb, le-ltb}
 use Rattle.basics.proofs.Choice.{either}
-use Rattle.lanes.specs.Lanes.{numberOf, lanes}
-use Rattle.lanes.proofs.Numbers.{Bytes}
-use Rattle.lanes.proofs.Each.{Small, lanes-same, lanes-and}
-use Rattle.lanes.proofs.Marks.{apart, aparts, marks, apart-small, aparts-each, Clears, apart-clears, both-clear, marks-found}
-use Rattle.lanes.proofs.Runs as runs
+use Rattle.swar.specs.Lanes.{numberOf, lanes}
+use Rattle.swar.proofs.Numbers.{Bytes}
+use Rattle.swar.proofs.Each.{Small, lanes-same, lanes-and}
+use Rattle.swar.proofs.Marks.{apart, aparts, marks, apart-small, aparts-each, Clears, apart-clears, both-clear, marks-found}
+use Rattle.swar.proofs.Runs as runs
 use Rattle.quotes.specs.Steps.{isPlain, plainLen, stopMark}
 use Rattle.quotes.proofs.PlainRuns.{plain-next, plain-stop, plain-over}
 

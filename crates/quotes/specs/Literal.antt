@@ -2,7 +2,7 @@
 use Prim.Native.Nat.{ℕ}
 use mathlib.Core.Bool.{cond, _&&_}
 use lib.Dec.{eqb}
-use Rattle.token.specs.Kinds.{ILLEGAL, CHAR, STRING}
+use Rattle.kinds.specs.Kinds.{ILLEGAL, CHAR, STRING}
 use Rattle.quotes.specs.Body.{Body}
 
 -- a string: its body's error

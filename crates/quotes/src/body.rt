@@ -6,7 +6,7 @@ ghost use mathlib.Core.Path.{_≡_};
 ghost use mathlib.Core.Bool.{cond};
 ghost use Prim.Native.Nat.{_+_, _<_, _≤_, _^_, min};
 ghost use lib.ListN.{length, drop};
-ghost use Rattle.lanes.specs.Lanes.{lanes};
+ghost use Rattle.swar.specs.Lanes.{lanes};
 ghost use Rattle.utf8.specs.Chars.{isStray};
 ghost use Rattle.quotes.specs.Escape.{bytesOf};
 ghost use Rattle.quotes.specs.declared.Given.the-variants.{Value};
@@ -158,7 +158,7 @@ fn plain_at(src: &[u8], at: usize, quote: u8) -> usize
     requires { ⌜ (quote < 128) × (at + 8 ≤ length (now src)) ⌝ }
     ensures { λ r. ⌜ r ≡ min 8 (plainLen quote (drop at (now (src .entry)))) ⌝ }
 {
-    u64::trailing_zeros(stops(lanes::eight(src, at), quote)) as usize / 8
+    u64::trailing_zeros(stops(swar::eight(src, at), quote)) as usize / 8
 }
 
 // The place of the first of those from a place on, or the end; by eight bytes where they are there.
@@ -167,7 +167,7 @@ fn plain_end(src: &[u8], at: usize, quote: u8) -> usize
     ensures { λ r. ⌜ r ≡ at + plainLen quote (drop at (now (src .entry))) ⌝ }
 {
     let mut p = at;
-    while lanes::has_eight(src, p) {
+    while swar::has_eight(src, p) {
         let n = plain_at(src, p, quote);
         if n < 8 {
             return p + n;

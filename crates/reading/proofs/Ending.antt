@@ -10,7 +10,7 @@ use native.Mathlib.Decide.{decLt}
 use lib.ListN.{length, drop, drop-of-length-le}
 use Rattle.utf8.specs.declared.Char.{Char}
 use Rattle.utf8.proofs.Ends.{Ends, ends-drop}
-use Rattle.token.specs.Kinds.{EOF}
+use Rattle.kinds.specs.Kinds.{EOF}
 use Rattle.lines.specs.Starts.{readLines}
 use Rattle.lexer.specs.Lexeme.{taken, Shut, bare, raise}
 use Rattle.lexer.proofs.LexLaws.{LexLaws}

@@ -11,7 +11,7 @@ use Rattle.utf8.specs.declared.Char.{Char}
 use Rattle.utf8.specs.Chars.{widths}
 use Rattle.utf8.proofs.Ends.{Ends}
 use Rattle.position.proofs.Lines.{AtMost}
-use Rattle.bodies.specs.Body.{isLf, count}
+use Rattle.utf8.specs.Count.{isLf, count}
 use Rattle.lines.specs.Starts.{readLines}
 use Rattle.lines.specs.Joined.{startsOf}
 use Rattle.lines.proofs.Joining.{over-opening, over-drop, read-closed, closed-count, starts-of-at-most}

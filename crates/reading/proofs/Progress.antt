@@ -9,9 +9,9 @@ use lib.Dec.{eqb}
 use lib.ListN.{length, drop, length-drop}
 use borrow.Author.Tests.{eqb-true, eqb-false}
 use Rattle.utf8.specs.declared.Char.{Char}
-use Rattle.token.specs.Kinds.{EOF}
-use Rattle.bodies.specs.Body.{one}
-use Rattle.bodies.proofs.Bodies.{one-le}
+use Rattle.kinds.specs.Kinds.{EOF}
+use Rattle.utf8.specs.Count.{one}
+use Rattle.utf8.proofs.Count.{one-le}
 use Rattle.lexer.specs.Lexeme.{Lexeme, taken}
 use Rattle.lexer.proofs.LexLaws.{Moves, LexLaws}
 use Rattle.reading.specs.Reading.{Reading, after, opened}

@@ -14,7 +14,7 @@ use Rattle.utf8.specs.Chars.{widths}
 use Rattle.position.specs.Lines.{StrictlyRising}
 use Rattle.position.proofs.Lines.{FromZero}
 use Rattle.errors.specs.declared.layout.Error.{Error}
-use Rattle.bodies.proofs.Counts.{widths-append}
+use Rattle.utf8.proofs.Count.{widths-append}
 use Rattle.lines.specs.Starts.{readLines}
 use Rattle.lines.proofs.Reading.{read-append}
 use Rattle.lines.proofs.Kept.{read-rising}

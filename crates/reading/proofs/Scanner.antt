@@ -7,7 +7,7 @@ use mathlib.Core.Logic.{_⊎_}
 use lib.ListN.{length}
 use Rattle.utf8.specs.declared.Char.{Char}
 use Rattle.utf8.proofs.Ends.{Ends}
-use Rattle.token.specs.Kinds.{EOF}
+use Rattle.kinds.specs.Kinds.{EOF}
 use Rattle.position.specs.Lines.{StrictlyRising}
 use Rattle.lexer.specs.Lex.{lex}
 use Rattle.lexer.proofs.Laws.{lex-laws}

@@ -10,10 +10,10 @@ use lib.ListN.{length, take}
 use lib.Seq.{take-append-le, drop-append-le, take-append-add, drop-append-add, take-length, drop-length}
 use Rattle.utf8.specs.declared.Char.{Char}
 use Rattle.utf8.specs.Chars.{widths}
-use Rattle.token.specs.Kinds.{EOF}
+use Rattle.kinds.specs.Kinds.{EOF}
 use Rattle.position.proofs.Lines.{AtMost, FromZero}
 use Rattle.errors.specs.declared.layout.Error.{Error}
-use Rattle.bodies.proofs.Counts.{widths-append}
+use Rattle.utf8.proofs.Count.{widths-append}
 use Rattle.lines.specs.Starts.{readLines}
 use Rattle.lines.specs.Joined.{over}
 use Rattle.lines.proofs.Reading.{read-append}

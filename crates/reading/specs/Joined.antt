@@ -6,9 +6,9 @@ use mathlib.Core.Logic.{_≢_}
 use lib.ListN.{length, drop}
 use Rattle.utf8.specs.declared.Char.{Char}
 use Rattle.utf8.specs.Chars.{widths}
-use Rattle.token.specs.Kinds.{EOF}
+use Rattle.kinds.specs.Kinds.{EOF}
 use Rattle.errors.specs.declared.layout.Error.{Error}
-use Rattle.bodies.specs.Body.{isLf, count}
+use Rattle.utf8.specs.Count.{isLf, count}
 use Rattle.lexer.specs.Lexeme.{Shut}
 use Rattle.reading.specs.Reading.{opened}
 use Rattle.reading.specs.Run.{Lexer, scanned, run, tokenAt, move}

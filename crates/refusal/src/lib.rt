@@ -1,21 +1,30 @@
 // The numbers of the refusals.
 
-// From the input.
+// ---- From the input.
+// Opening: not UTF-8.
 pub const NOT_UTF8: u8 = 1;
 
+// Opening: too long.
 pub const TOO_LONG: u8 = 2;
 
-pub const SIZE: u8 = 3;
+// A size below the number of characters, or base + size too large; a scan: an offset would pass the size.
+pub const BAD_SIZE: u8 = 3;
 
-pub const POSITION: u8 = 4;
+// A position outside base to base + size.
+pub const NO_POSITION: u8 = 4;
 
-pub const LINE: u8 = 5;
+// Line 0 or above the count.
+pub const NO_LINE: u8 = 5;
 
-// From the state.
+// ---- From the state.
+// The state does not fit what a call is lent.
 pub const DOES_NOT_FIT: u8 = 6;
 
+// More line starts than the table holds.
 pub const TABLE_FULL: u8 = 7;
 
+// An error and a full list.
 pub const LIST_FULL: u8 = 8;
 
+// More bytes of text and value to be written than the text area holds.
 pub const AREA_FULL: u8 = 9;

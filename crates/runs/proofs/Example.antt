@@ -11,8 +11,8 @@ use borrow.Author.Tests.{eqb-false}
 use Rattle.basics.specs.Same.{same}
 use Rattle.basics.specs.Spelling.{spelled}
 use Rattle.utf8.specs.Chars.{charsFrom, firstChar, octets, encode}
-use Rattle.token.specs.Kinds.{ILLEGAL, EOF, IDENT, INT, ASSIGN, SEMICOLON}
-use Rattle.token.specs.Table.{keywords, operators, kindNamed}
+use Rattle.kinds.specs.Kinds.{ILLEGAL, EOF, IDENT, INT, ASSIGN, SEMICOLON}
+use Rattle.kinds.specs.Table.{keywords, operators, kindNamed}
 use Rattle.digits.specs.Digit.{digitVal}
 use Rattle.words.specs.Word.{isLetter, isWord, wordLen}
 use Rattle.blanks.specs.Blank.{isSpace, isBlank, skip}

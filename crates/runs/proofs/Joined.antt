@@ -11,8 +11,8 @@ use borrow.Author.Tests.{eqb-true, eqb-false}
 use Rattle.utf8.specs.declared.Char.{Char}
 use Rattle.utf8.specs.Chars.{chars}
 use Rattle.utf8.proofs.Append.{chars-append}
-use Rattle.token.specs.Kinds.{EOF}
-use Rattle.bodies.proofs.Counts.{widths-append}
+use Rattle.kinds.specs.Kinds.{EOF}
+use Rattle.utf8.proofs.Count.{widths-append}
 use Rattle.lexer.specs.Lex.{lex}
 use Rattle.lexer.proofs.Laws.{lex-laws}
 use Rattle.reading.specs.Reading.{Reading, opened}

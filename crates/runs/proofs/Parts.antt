@@ -12,7 +12,7 @@ use Rattle.utf8.specs.declared.Char.{Char}
 use Rattle.utf8.specs.Chars.{chars, widths, wellFormed}
 use Rattle.utf8.proofs.Append.{chars-append}
 use Rattle.utf8.proofs.Places.{place-chars, place-fits}
-use Rattle.token.specs.Kinds.{STRING}
+use Rattle.kinds.specs.Kinds.{STRING}
 use Rattle.lexer.specs.Lexeme.{Lexeme}
 use Rattle.lexer.specs.Placed.{placed}
 use Rattle.reading.specs.Run.{Token, move}

@@ -11,7 +11,7 @@ use lib.Seq.{sets, take-append-seam}
 use borrow.Author.Tests.{ne-eqb}
 use Rattle.utf8.specs.Chars.{chars}
 use Rattle.utf8.proofs.Places.{place-chars, place-fits}
-use Rattle.token.specs.Kinds.{STRING}
+use Rattle.kinds.specs.Kinds.{STRING}
 use Rattle.errors.specs.declared.layout.Error.{Error}
 use Rattle.errors.specs.Layout.{width, numbers}
 use Rattle.errors.specs.Errors.{errorsOf, roomOf}

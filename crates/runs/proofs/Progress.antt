@@ -7,7 +7,7 @@ use native.Mathlib.Nat.{add-zero, add-suc}
 use native.Mathlib.Omega.{arith}
 use lib.ListN.{length, getElem?}
 use Rattle.utf8.specs.Chars.{chars}
-use Rattle.token.specs.Kinds.{EOF}
+use Rattle.kinds.specs.Kinds.{EOF}
 use Rattle.position.specs.Lines.{StrictlyRising}
 use Rattle.lexer.specs.Lex.{lex}
 use Rattle.reading.specs.Reading.{Reading}

@@ -15,7 +15,7 @@ use Rattle.basics.proofs.Lists.{same-true}
 use Rattle.utf8.specs.Chars.{chars, widths}
 use Rattle.utf8.proofs.First.{chars-at, chars-end, first-least}
 use Rattle.utf8.proofs.Places.{place-fits}
-use Rattle.token.specs.Kinds.{STRING}
+use Rattle.kinds.specs.Kinds.{STRING}
 use Rattle.lexer.specs.Lexeme.{Lexeme}
 use Rattle.lexer.specs.Placed.{placed, valueRead, textDiffersIn}
 use Rattle.state.specs.Queries.{Shown, shownIn, shownOf}

@@ -4,7 +4,7 @@ use mathlib.Core.Path.{_≡_, refl}
 use lib.ListN.{replicate}
 use Rattle.basics.specs.Same.{same}
 use Rattle.utf8.specs.Chars.{charsFrom, firstChar, octets, encode}
-use Rattle.token.specs.Table.{keywords, kindNamed}
+use Rattle.kinds.specs.Table.{keywords, kindNamed}
 use Rattle.digits.specs.Digit.{digitVal}
 use Rattle.words.specs.Word.{isLetter, isWord, wordLen}
 use Rattle.blanks.specs.Blank.{isSpace, isBlank, skip}
@@ -14,9 +14,9 @@ use Rattle.numbers.specs.Spelling.{numberText}
 use Rattle.quotes.specs.Numeral.{numeral}
 use Rattle.quotes.specs.Escape.{letter, byteOf, octalEscape, escapeOf}
 use Rattle.quotes.specs.Body.{bodyFrom}
-use Rattle.bodies.specs.Span.{toStop, toStarSlash}
-use Rattle.bodies.specs.Body.{clean}
-use Rattle.bodies.specs.Line.{blankToEnd, endsLine}
+use Rattle.spans.specs.Span.{toStop, toStarSlash}
+use Rattle.spans.specs.Body.{clean}
+use Rattle.spans.specs.Line.{blankToEnd, endsLine}
 use Rattle.lexer.specs.Words.{wordOf, lexNumber}
 use Rattle.lexer.specs.Quotes.{lexString, lexChar, lexRaw}
 use Rattle.lexer.specs.Comments.{comment, lexComment}

@@ -6,8 +6,8 @@ use mathlib.Core.List.{List, [], _∷_, _++_, map}
 use mathlib.Core.Logic.{_≢_, _⊎_}
 use lib.ListN.{length, drop}
 use Rattle.utf8.specs.Chars.{chars}
-use Rattle.token.specs.Kinds.{EOF}
-use Rattle.bodies.specs.Body.{isLf, count}
+use Rattle.kinds.specs.Kinds.{EOF}
+use Rattle.utf8.specs.Count.{isLf, count}
 use Rattle.reading.specs.Joined.{AllShut, moveError}
 use Rattle.state.specs.declared.part.Part.{Part}
 use Rattle.scanner.specs.declared.answer.Token.{Token}

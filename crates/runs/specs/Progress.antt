@@ -7,7 +7,7 @@ use mathlib.Core.Option.{some}
 use lib.Dec.{ltb}
 use lib.ListN.{length, getElem?}
 use Rattle.utf8.specs.Chars.{chars}
-use Rattle.token.specs.Kinds.{EOF}
+use Rattle.kinds.specs.Kinds.{EOF}
 use Rattle.position.specs.Lines.{StrictlyRising}
 use Rattle.errors.specs.Errors.{roomOf}
 use Rattle.lexer.specs.Lex.{lex}

@@ -6,7 +6,7 @@ use mathlib.Core.List.{List, [], _∷_, map}
 use lib.ListN.{length, replicate}
 use Rattle.basics.specs.Spelling.{spelled}
 use Rattle.utf8.specs.Chars.{chars}
-use Rattle.token.specs.Kinds.{ILLEGAL, EOF, COMMENT, IDENT, INT, STRING, SEMICOLON}
+use Rattle.kinds.specs.Kinds.{ILLEGAL, EOF, COMMENT, IDENT, INT, STRING, SEMICOLON}
 use Rattle.errors.specs.declared.layout.Error.{Error}
 use Rattle.state.specs.Opening.{fresh}
 use Rattle.runs.specs.Calls.{Held, Accepted, Seen, play, tokens, errorsIn}

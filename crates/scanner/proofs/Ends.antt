@@ -17,8 +17,8 @@ use Rattle.utf8.specs.Chars.{ended, charOf, firstChar, chars, widths}
 use Rattle.utf8.proofs.Bytes.{View, none, one, two, three, four, view}
 use Rattle.utf8.proofs.First.{first-is, first-least, chars-at, chars-end, ascii, ascii-there}
 use Rattle.utf8.proofs.Places.{place-chars}
-use Rattle.bodies.specs.Body.{isLf, count}
-use Rattle.bodies.proofs.Counts.{count-last, widths-last}
+use Rattle.utf8.specs.Count.{isLf, count}
+use Rattle.utf8.proofs.Count.{count-last, widths-last}
 use Rattle.lines.specs.Starts.{startsRead}
 use Rattle.lines.proofs.Reading.{starts-append}
 use Rattle.blanks.specs.Blank.{skip}

@@ -18,8 +18,8 @@ use Rattle.position.proofs.Lines.{FromZero, from-zero-append}
 use Rattle.position.proofs.Place.{Fit, fit, fit-true, from-zero, last-start}
 use Rattle.errors.specs.Layout.{width, numbers}
 use Rattle.errors.specs.Errors.{roomOf}
-use Rattle.bodies.specs.Body.{count}
-use Rattle.bodies.proofs.Counts.{count-fits}
+use Rattle.utf8.specs.Count.{count}
+use Rattle.utf8.proofs.Count.{count-fits}
 use Rattle.lines.proofs.Kept.{read-last}
 use Rattle.lexer.specs.Lexeme.{Lexeme, taken}
 use Rattle.lexer.specs.Lex.{lex}

@@ -12,7 +12,7 @@ use lib.Seq.{take-add}
 use borrow.Author.Tests.{lt-ltb}
 use Rattle.utf8.specs.declared.Char.{Char}
 use Rattle.utf8.specs.Chars.{chars}
-use Rattle.bodies.specs.Body.{isLf, count}
+use Rattle.utf8.specs.Count.{isLf, count}
 use Rattle.lines.specs.Starts.{startsRead}
 use Rattle.lines.proofs.Counts.{starts-le}
 use Rattle.lines.proofs.Reading.{starts-append}

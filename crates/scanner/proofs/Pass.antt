@@ -15,9 +15,9 @@ use Rattle.utf8.specs.declared.Char.{Char}
 use Rattle.utf8.specs.Chars.{chars, widths}
 use Rattle.utf8.proofs.First.{chars-le}
 use Rattle.utf8.proofs.Places.{place-fits}
-use Rattle.token.specs.Kinds.{STRING}
-use Rattle.bodies.specs.Body.{isLf, count}
-use Rattle.bodies.proofs.Counts.{count-append, widths-append, count-fits}
+use Rattle.kinds.specs.Kinds.{STRING}
+use Rattle.utf8.specs.Count.{isLf, count}
+use Rattle.utf8.proofs.Count.{count-append, widths-append, count-fits}
 use Rattle.lines.specs.Starts.{startsRead}
 use Rattle.lines.proofs.Counts.{starts-count}
 use Rattle.blanks.specs.Blank.{isBlank, nothing, before, skip}

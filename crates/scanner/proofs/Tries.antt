@@ -10,8 +10,8 @@ use lib.ListN.{length, drop}
 use lib.Seq.{sets}
 use borrow.Author.Tests.{eqb-true, leb-false, le-leb}
 use Rattle.utf8.specs.Chars.{chars}
-use Rattle.bodies.specs.Body.{isLf}
-use Rattle.bodies.proofs.Counts.{count-fits}
+use Rattle.utf8.specs.Count.{isLf}
+use Rattle.utf8.proofs.Count.{count-fits}
 use Rattle.position.proofs.Place.{fit}
 use Rattle.errors.specs.Errors.{roomOf}
 use Rattle.blanks.specs.declared.Skipped.{Skipped}

@@ -6,7 +6,7 @@ use lib.Dec.{eqb, ltb}
 use lib.ListN.{length, take, drop}
 use lib.Seq.{sets}
 use Rattle.utf8.specs.Chars.{chars, widths}
-use Rattle.token.specs.Kinds.{NONE, STRING}
+use Rattle.kinds.specs.Kinds.{NONE, STRING}
 use Rattle.errors.specs.Layout.{width, numbers}
 use Rattle.errors.specs.Errors.{errorsOf, roomOf}
 use Rattle.lexer.specs.Lexeme.{Lexeme}

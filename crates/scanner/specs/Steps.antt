@@ -7,7 +7,7 @@ use lib.Dec.{eqb, ltb}
 use lib.ListN.{length, take, drop}
 use lib.Seq.{sets}
 use Rattle.utf8.specs.Chars.{chars}
-use Rattle.token.specs.Kinds.{STRING}
+use Rattle.kinds.specs.Kinds.{STRING}
 use Rattle.lines.specs.Starts.{startsRead}
 use Rattle.position.specs.Place.{fitting}
 use Rattle.errors.specs.Layout.{width, numbers}

@@ -6,7 +6,7 @@ ghost use mathlib.Core.Path.{_≡_};
 ghost use mathlib.Core.Bool.{false, cond};
 ghost use Prim.Native.Nat.{_+_, _<_, _^_};
 ghost use lib.Dec.{eqb};
-ghost use Rattle.token.specs.Kinds.{STRING};
+ghost use Rattle.kinds.specs.Kinds.{STRING};
 ghost use Rattle.lexer.specs.Placed.{lengthOf};
 ghost use Rattle.scanner.specs.Scan.{partFrom, noToken};
 ghost use Rattle.scanner.specs.Steps.{textLen, valueLen, tokenBy, isPlain};
@@ -45,7 +45,7 @@ pub(crate) fn no_token() -> Token
         end: 0,
     };
     Token {
-        kind: token::NONE,
+        kind: kinds::NONE,
         inserted: false,
         position: 0,
         code: 0,
@@ -95,7 +95,7 @@ fn value_start(x: Lexed, start: usize, text_end: usize) -> usize
         }
         return 0;
     }
-    if x.kind == token::STRING {
+    if x.kind == kinds::STRING {
         return start + 1;
     }
     start
@@ -142,7 +142,7 @@ pub(crate) fn plain_token(x: Lexed, start: usize, position: usize) -> Token
     requires { ⌜ (x .«text_differs» ≡ false) × (x .«value_differs» ≡ false) × (start + 1 + textLen x + valueLen x < 2 ^ 64) ⌝ }
     ensures { λ r. ⌜ r ≡ tokenBy x start position ⌝ }
 {
-    let value_from = if x.kind == token::STRING {
+    let value_from = if x.kind == kinds::STRING {
         start + 1
     } else {
         start

@@ -17,7 +17,7 @@ ghost use lib.Dec.{leb, eqb};
 ghost use lib.ListN.{length, take, drop};
 ghost use lib.Seq.{sets};
 ghost use Rattle.utf8.specs.Chars.{chars};
-ghost use Rattle.bodies.specs.Body.{isLf, count};
+ghost use Rattle.utf8.specs.Count.{isLf, count};
 ghost use Rattle.lines.specs.Starts.{startsRead};
 ghost use Rattle.position.specs.Place.{fitting};
 ghost use Rattle.errors.specs.Layout.{width, numbers};
@@ -80,7 +80,7 @@ fn refusal_of(
     ensures { λ r. ⌜ r ≡ refusalBy x offset starts state table list area ⌝ }
 {
     if offset > state.size {
-        return refusal::SIZE;
+        return refusal::BAD_SIZE;
     }
     if starts > table - state.lines {
         return refusal::TABLE_FULL;

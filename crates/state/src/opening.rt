@@ -24,10 +24,10 @@ pub fn open(src: &[u8], base: usize, size: usize, table: &mut [usize]) -> Opened
         utf8::Checked::Valid(chars) => {
             let state = State::new(base, size);
             if chars > size {
-                return Opened::Refused(refusal::SIZE);
+                return Opened::Refused(refusal::BAD_SIZE);
             }
             if !state.file().is_placed() {
-                return Opened::Refused(refusal::SIZE);
+                return Opened::Refused(refusal::BAD_SIZE);
             }
             if table.len() == 0 {
                 return Opened::Refused(refusal::TABLE_FULL);

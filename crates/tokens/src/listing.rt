@@ -55,7 +55,7 @@ fn list_placed<'a>(
     Progress {
         state,
         waiting: show::token(out, waiting, place, token, text, value),
-        over: token.kind == token::EOF,
+        over: token.kind == kinds::EOF,
         refusal: 0,
     }
 }

@@ -17,7 +17,7 @@ fn place(out: &mut Buffer, waiting: usize, at: Position) -> usize {
 
 // A token's text; a written semicolon, which has none as no operator has, shows its character.
 fn text_of(out: &mut Buffer, waiting: usize, token: Token, text: &[u8]) -> usize {
-    if token.kind == token::SEMICOLON {
+    if token.kind == kinds::SEMICOLON {
         if !token.inserted {
             return output::hex_bytes(out, waiting, b";");
         }
@@ -27,11 +27,11 @@ fn text_of(out: &mut Buffer, waiting: usize, token: Token, text: &[u8]) -> usize
 
 // What stands behind a token's text: the value of a STRING, the code point of a CHAR.
 fn value_of(out: &mut Buffer, waiting: usize, token: Token, value: &[u8]) -> usize {
-    if token.kind == token::STRING {
+    if token.kind == kinds::STRING {
         let end = output::byte(out, waiting, b' ');
         return output::hex_bytes(out, end, value);
     }
-    if token.kind == token::CHAR {
+    if token.kind == kinds::CHAR {
         let end = output::byte(out, waiting, b' ');
         return output::hex(out, end, token.code);
     }

@@ -10,3 +10,4 @@ pub mod Append
 pub mod Encoding
 pub mod Written
 pub mod Vectors
+pub mod Count

@@ -1,3 +1,4 @@
 pub mod Table
 pub mod Chars
 pub mod Bytes
+pub mod Count

@@ -14,11 +14,11 @@ use lib.ListN.{length, take, drop, getD, length-drop}
 use Rattle.basics.proofs.Choice.{either}
 use Rattle.basics.proofs.Every.{every-below}
 use Rattle.basics.proofs.Lists.{reach}
-use Rattle.lanes.specs.Lanes.{numberOf, lanes}
-use Rattle.lanes.proofs.Numbers.{Bytes}
-use Rattle.lanes.proofs.Each.{small, lanes-same, lanes-fit, lanes-and, lanes-or, plus-all, from-all, le-all, or-all}
-use Rattle.lanes.proofs.Marks.{low, apart, mark, lows, aparts, marks, low-small, lows-each, aparts-each, marks-each}
-use Rattle.lanes.proofs.Runs.{run-skip, run-marked}
+use Rattle.swar.specs.Lanes.{numberOf, lanes}
+use Rattle.swar.proofs.Numbers.{Bytes}
+use Rattle.swar.proofs.Each.{small, lanes-same, lanes-fit, lanes-and, lanes-or, plus-all, from-all, le-all, or-all}
+use Rattle.swar.proofs.Marks.{low, apart, mark, lows, aparts, marks, low-small, lows-each, aparts-each, marks-each}
+use Rattle.swar.proofs.Runs.{run-skip, run-marked}
 use Rattle.utf8.specs.Chars.{chars}
 use Rattle.utf8.proofs.First.{chars-le}
 use Rattle.utf8.proofs.Runs.{run-bound}

@@ -2,7 +2,7 @@
 ghost use mathlib.Core.Path.{_≡_};
 ghost use Prim.Native.Nat.{_+_, min};
 ghost use lib.ListN.{drop};
-ghost use Rattle.lanes.specs.Lanes.{lanes};
+ghost use Rattle.swar.specs.Lanes.{lanes};
 ghost use Rattle.utf8.specs.Chars.{chars};
 ghost use Rattle.words.specs.Word.{isLetter, wordLen};
 ghost use Rattle.words.specs.Marks.{other};
@@ -43,7 +43,7 @@ fn others(w: u64) -> u64
 fn run_at(src: &[u8], at: usize) -> usize
     ensures { λ r. ⌜ r ≡ min 8 (wordLen (chars (drop at (now (src .entry))))) ⌝ }
 {
-    u64::trailing_zeros(others(lanes::eight(src, at))) as usize / 8
+    u64::trailing_zeros(others(swar::eight(src, at))) as usize / 8
 }
 
 // The place after the longest run of letters and digits at a place. (The loop would do without its test; with it, the load has none.)
@@ -51,7 +51,7 @@ pub fn word_end(src: &[u8], at: usize) -> usize
     ensures { λ r. ⌜ r ≡ at + wordLen (chars (drop at (now (src .entry)))) ⌝ }
 {
     let mut p = at;
-    while lanes::has_eight(src, p) {
+    while swar::has_eight(src, p) {
         let n = run_at(src, p);
         if n < 8 {
             return p + n;
@@ -70,7 +70,7 @@ pub struct Near {
 pub fn near_run(src: &[u8], at: usize) -> Near
     ensures { λ r. ⌜ r ≡ nearRun (now (src .entry)) at ⌝ }
 {
-    let bytes = lanes::eight(src, at);
+    let bytes = swar::eight(src, at);
     let marks = others(bytes);
     if marks == 0 {
         return Near {

@@ -4,10 +4,10 @@ use mathlib.Core.Path.{_≡_, sym, ap, _∙_}
 use mathlib.Core.Bool.{true, false}
 use mathlib.Core.List.{List}
 use Rattle.utf8.specs.declared.Char.{Char}
-use Rattle.bodies.specs.declared.body.Body.{Body}
-use Rattle.bodies.specs.Span.{toStop}
-use Rattle.bodies.specs.Body.{bodyOf, rawBody, rawInside}
-use Rattle.bodies.proofs.Spans.{stop-spanned}
+use Rattle.spans.specs.declared.body.Body.{Body}
+use Rattle.spans.specs.Span.{toStop}
+use Rattle.spans.specs.Body.{bodyOf, rawBody, rawInside}
+use Rattle.spans.proofs.Spans.{stop-spanned}
 
 module _ (at : ℕ) (r : List Char) (b : Body) (e : b ≡ rawBody at r) where
   same-chars : b .chars ≡ toStop 96 r .len

@@ -9,7 +9,8 @@ use lib.Seq.{take-nil}
 use Rattle.utf8.specs.declared.Char.{Char}
 use Rattle.utf8.specs.Chars.{charAt, chars, encode, encoded}
 use Rattle.utf8.proofs.First.{chars-end, there-chars}
-use Rattle.bodies.specs.Body.{isCr, clean}
+use Rattle.utf8.specs.Count.{isCr}
+use Rattle.spans.specs.Body.{clean}
 use Rattle.writing.specs.Text.{text}
 
 pub text-encoded : (cs : List Char) → text true cs ≡ encoded cs

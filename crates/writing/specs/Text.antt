@@ -4,7 +4,7 @@ use mathlib.Core.List.{List, [], _∷_, _++_}
 use Prim.Native.Nat.{ℕ}
 use Rattle.utf8.specs.declared.Char.{Char}
 use Rattle.utf8.specs.Chars.{encode}
-use Rattle.bodies.specs.Body.{isCr}
+use Rattle.utf8.specs.Count.{isCr}
 
 unfoldable pub text : Bool → List Char → List ℕ
 text crs [] = []

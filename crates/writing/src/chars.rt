@@ -6,7 +6,7 @@ ghost use mathlib.Core.List.{[], _∷_, _++_};
 ghost use lib.ListN.{take, drop};
 ghost use lib.Seq.{sets};
 ghost use Rattle.utf8.specs.Chars.{chars, encoded};
-ghost use Rattle.bodies.specs.Body.{clean};
+ghost use Rattle.spans.specs.Body.{clean};
 ghost use Rattle.writing.specs.Text.{text};
 ghost use Rattle.writing.specs.Writes.{Writes};
 

@@ -9,8 +9,8 @@ ghost use mathlib.Core.Bool.{true};
 ghost use lib.ListN.{take, drop};
 ghost use lib.Seq.{sets};
 ghost use Rattle.utf8.specs.Chars.{chars};
-ghost use Rattle.bodies.specs.Span.{toStop};
-ghost use Rattle.bodies.specs.Body.{clean, rawInside};
+ghost use Rattle.spans.specs.Span.{toStop};
+ghost use Rattle.spans.specs.Body.{clean, rawInside};
 ghost use Rattle.quotes.specs.declared.Given.the-variants.{Value};
 ghost use Rattle.quotes.specs.Escape.{bytesOf};
 ghost use Rattle.quotes.specs.Body.{body};
@@ -62,7 +62,7 @@ pub fn write_interpreted(src: &[u8], at: usize, area: &mut [u8], to: usize)
 fn raw_inside(src: &[u8], at: usize) -> usize
     ensures { λ r. ⌜ r ≡ rawInside (toStop 96 (chars (drop at (now (src .entry))))) ⌝ }
 {
-    let body = bodies::raw_body(src, at);
+    let body = spans::raw_body(src, at);
     if body.closed {
         body.chars - 1
     } else {

@@ -3,7 +3,7 @@ use mathlib.Core.Path.{_≡_, ap, _∙_}
 use borrow.Author.Needs.{needs}
 use native.Mathlib.Omega.{arith}
 use lib.ListN.{take, length-take}
-use Rattle.token.specs.Table.{identToken, keywords}
+use Rattle.kinds.specs.Table.{identToken, keywords}
 use Rattle.keywords.specs.Search.{slotOf, rowIn}
 use Rattle.keywords.proofs.Search.{searched, search-hit, search-miss, word-searched, take-least}
 use Rattle.keywords.proofs.ident_token.Statement.{statement}

@@ -3,7 +3,7 @@ use Prim.Native.Nat.{ℕ, _-_}
 use mathlib.Core.Path.{refl, ap}
 use lib.ListN.{replicate}
 use borrow.Author.Needs.{needs}
-use Rattle.token.specs.Table.{keywords}
+use Rattle.kinds.specs.Table.{keywords}
 use Rattle.keywords.specs.Search.{rowIn}
 use Rattle.keywords.proofs.Slots.{Filled, begun, more, full}
 use Rattle.keywords.proofs.keyword_numbers.Statement.{statement}

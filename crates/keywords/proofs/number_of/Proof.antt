@@ -2,7 +2,7 @@
 use mathlib.Core.Path.{ap₂, _∙_}
 use borrow.Author.Needs.{needs}
 use lib.Bits.{bitAnd}
-use Rattle.lanes.proofs.Numbers.{number-mask}
+use Rattle.swar.proofs.Numbers.{number-mask}
 use Rattle.keywords.proofs.number_of.Statement.{statement}
 use Rattle.keywords.proofs.number_of.Tie as tie
 

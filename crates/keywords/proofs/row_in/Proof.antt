@@ -1,7 +1,7 @@
 -- Each arm's row by computation; elsewhere no keyword has the slot.
 use borrow.Author.Tests.{ne-eqb}
-use Rattle.lanes.specs.Lanes.{numberOf}
-use Rattle.token.specs.Table.{keywords}
+use Rattle.swar.specs.Lanes.{numberOf}
+use Rattle.kinds.specs.Table.{keywords}
 use Rattle.keywords.specs.Search.{slotOf, rowIn}
 use Rattle.keywords.proofs.row_in.Statement.{statement}
 use Rattle.keywords.proofs.row_in.Tie as tie

@@ -1,7 +1,7 @@
 -- `operators::scan_operator` meets its contract: an arm for each first code of the table; its rows are computed.
 use mathlib.Core.Path.{refl, _∙_}
-use Rattle.token.specs.Kinds.{ADD, ADD-ASSIGN, ASSIGN, COLON, COMMA, DEC, DEFINE, EQL, INC, LBRACE, LBRACK, LOR, LPAREN, MUL, MUL-ASSIGN, NEQ, NOT, OR, OR-ASSIGN, QUO, QUO-ASSIGN, RBRACE, RBRACK, REM, REM-ASSIGN, RPAREN, SEMICOLON, SUB, SUB-ASSIGN, XOR, XOR-ASSIGN}
-use Rattle.token.specs.Table.{operators}
+use Rattle.kinds.specs.Kinds.{ADD, ADD-ASSIGN, ASSIGN, COLON, COMMA, DEC, DEFINE, EQL, INC, LBRACE, LBRACK, LOR, LPAREN, MUL, MUL-ASSIGN, NEQ, NOT, OR, OR-ASSIGN, QUO, QUO-ASSIGN, RBRACE, RBRACK, REM, REM-ASSIGN, RPAREN, SEMICOLON, SUB, SUB-ASSIGN, XOR, XOR-ASSIGN}
+use Rattle.kinds.specs.Table.{operators}
 use Rattle.operators.proofs.Rows.{one-is, switch2-is, switch2-last-is, switch3-is, less-is, greater-is, and-is, period-is, none-is, end-is}
 use borrow.Author.Needs.{needs}
 use Rattle.operators.proofs.scan_operator.Statement.{statement}

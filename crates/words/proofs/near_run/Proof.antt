@@ -8,9 +8,9 @@ use lib.Count.{trailingZeros, trailing-of-zero}
 use lib.Dec.{lit<}
 use lib.ListN.{take, drop}
 use lib.Pow.{pow-pos, shl-exact}
-use Rattle.lanes.specs.Lanes.{numberOf}
-use Rattle.lanes.proofs.Numbers.{bytes-drop, number-mod}
-use Rattle.lanes.proofs.Trailing.{zeros-lt}
+use Rattle.swar.specs.Lanes.{numberOf}
+use Rattle.swar.proofs.Numbers.{bytes-drop, number-mod}
+use Rattle.swar.proofs.Trailing.{zeros-lt}
 use Rattle.utf8.specs.Chars.{chars}
 use Rattle.words.specs.Word.{wordLen}
 use Rattle.words.specs.Near.{nearRun}

@@ -1,7 +1,7 @@
 -- `words::others` meets its contract: nothing overflows, and each byte is marked by itself.
 use native.Mathlib.Omega.{arith}
 use borrow.Author.Needs.{needs}
-use Rattle.lanes.proofs.Marks.{aparts-fit}
+use Rattle.swar.proofs.Marks.{aparts-fit}
 use Rattle.words.proofs.Marks.{others-each, letter-fits, letter-less, digit-fits, digit-less}
 use Rattle.words.proofs.others.Statement.{statement}
 use Rattle.words.proofs.others.Tie as tie

@@ -7,7 +7,7 @@ use lib.Dec.{eqb, eqb→eq}
 use lib.ListN.{getD, set, replicate}
 use borrow.Author.Needs.{needs}
 use Rattle.basics.proofs.Every.{every-entry}
-use Rattle.token.specs.Kinds.{ILLEGAL, IDENT, INT, STRING, ADD, LPAREN, LBRACK, LBRACE, COMMA, PERIOD, RPAREN, RBRACK, RBRACE, SEMICOLON}
+use Rattle.kinds.specs.Kinds.{ILLEGAL, IDENT, INT, STRING, ADD, LPAREN, LBRACK, LBRACE, COMMA, PERIOD, RPAREN, RBRACK, RBRACE, SEMICOLON}
 use Rattle.words.specs.Word.{isLetter}
 use Rattle.batch.specs.Simple.{startsOperator, firstKind, IsTable}
 use Rattle.batch.proofs.first.first_kinds.Statement.{statement}

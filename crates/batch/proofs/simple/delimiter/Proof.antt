@@ -9,7 +9,7 @@ use lib.Dec.{lit<}
 use lib.ListN.{getD}
 use borrow.Author.Tests.{ne-eqb}
 use borrow.Author.Needs.{needs}
-use Rattle.token.specs.Kinds.{ILLEGAL, IDENT, INT, STRING, ADD, LPAREN, PERIOD}
+use Rattle.kinds.specs.Kinds.{ILLEGAL, IDENT, INT, STRING, ADD, LPAREN, PERIOD}
 use Rattle.words.specs.Word.{isLetter}
 use Rattle.lexer.specs.declared.lexed.Text.the-variants.{Empty}
 use Rattle.lexer.specs.Lexeme.{setsMark}

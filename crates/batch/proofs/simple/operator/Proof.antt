@@ -8,7 +8,7 @@ use borrow.Author.Tests.{ne-eqb}
 use borrow.Author.Needs.{needs}
 use lib.ListN.{drop}
 use Rattle.utf8.specs.Chars.{chars}
-use Rattle.token.specs.Kinds.{EOF, STRING}
+use Rattle.kinds.specs.Kinds.{EOF, STRING}
 use Rattle.operators.proofs.Bounds.{operator-short}
 use Rattle.lexer.specs.declared.lexed.Text.the-variants.{Empty}
 use Rattle.lexer.specs.Lexeme.{setsMark}

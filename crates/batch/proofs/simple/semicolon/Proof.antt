@@ -4,7 +4,7 @@ use mathlib.Core.Path.{refl, _∙_}
 use native.Mathlib.Nat.{add-zero}
 use native.Mathlib.Omega.{arith}
 use borrow.Author.Needs.{needs}
-use Rattle.token.specs.Kinds.{SEMICOLON}
+use Rattle.kinds.specs.Kinds.{SEMICOLON}
 use Rattle.lexer.specs.declared.lexed.Text.the-variants.{Empty}
 use Rattle.batch.proofs.SimpleTokens.{feed-read}
 use Rattle.batch.proofs.Giving.{gives-plain}

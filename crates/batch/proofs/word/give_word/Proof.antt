@@ -6,7 +6,7 @@ use borrow.Author.Needs.{needs}
 use borrow.Author.Tests.{eq-eqb, ne-eqb}
 use lib.Dec.{eqb}
 use lib.Seq.{sets}
-use Rattle.token.specs.Kinds.{IDENT}
+use Rattle.kinds.specs.Kinds.{IDENT}
 use Rattle.batch.specs.Layout.{tokenNumbers}
 use Rattle.batch.specs.Simple.{simpleToken}
 use Rattle.batch.proofs.word.give_word.Statement.{statement}

@@ -5,9 +5,9 @@ use native.Mathlib.Omega.{arith}
 use lib.ListN.{take, drop, length-drop}
 use borrow.Author.Needs.{needs}
 use Rattle.utf8.specs.Chars.{chars}
-use Rattle.lanes.specs.Lanes.{numberOf}
-use Rattle.lanes.proofs.Numbers.{bytes-drop}
-use Rattle.token.specs.Table.{identToken}
+use Rattle.swar.specs.Lanes.{numberOf}
+use Rattle.swar.proofs.Numbers.{bytes-drop}
+use Rattle.kinds.specs.Table.{identToken}
 use Rattle.words.specs.Word.{wordLen}
 use Rattle.words.specs.declared.Near.{Near}
 use Rattle.words.proofs.Marks.{run-room}

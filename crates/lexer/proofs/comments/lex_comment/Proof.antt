@@ -8,7 +8,7 @@ use lib.ListN.{getD, drop}
 use borrow.Author.Needs.{needs}
 use Rattle.basics.proofs.Lists.{reach}
 use Rattle.utf8.specs.Chars.{chars}
-use Rattle.bodies.specs.Line.{endsLine}
+use Rattle.spans.specs.Line.{endsLine}
 use Rattle.lexer.proofs.SpannedTokens.{comment-inserted, comment-kept}
 use Rattle.lexer.proofs.comments.lex_comment.Statement.{statement}
 use Rattle.lexer.proofs.comments.lex_comment.Tie as tie

@@ -4,7 +4,7 @@ use mathlib.Core.Path.{refl, sym, ap, _∙_}
 use native.Mathlib.Omega.{arith}
 use lib.ListN.{getD}
 use borrow.Author.Needs.{needs}
-use Rattle.token.specs.Kinds.{ILLEGAL}
+use Rattle.kinds.specs.Kinds.{ILLEGAL}
 use Rattle.lexer.specs.Placed.{said, placed}
 use Rattle.lexer.proofs.Tokens.{shown-said}
 use Rattle.lexer.proofs.Dispatch.{slashes, comment-is, points-ascii, points-is, operator-is}

@@ -8,7 +8,7 @@ use borrow.Author.Tests.{ne-eqb}
 use borrow.Author.Needs.{needs}
 use Rattle.basics.proofs.Choice.{none-of}
 use Rattle.utf8.specs.Chars.{chars}
-use Rattle.token.specs.Kinds.{EOF}
+use Rattle.kinds.specs.Kinds.{EOF}
 use Rattle.digits.specs.Digit.{isDecimal}
 use Rattle.lexer.specs.Placed.{said, placed}
 use Rattle.lexer.proofs.Said.{semicolon-said}

@@ -7,8 +7,8 @@ use native.Mathlib.Omega.{arith}
 use borrow.Author.Needs.{needs}
 use borrow.Author.Tests.{ne-eqb}
 use Rattle.basics.proofs.Choice.{true-of}
-use Rattle.token.specs.Kinds.{IDENT, INC, DEC, RPAREN, RBRACK, RBRACE, BREAK, CONTINUE, FALLTHROUGH, RETURN}
-use Rattle.token.proofs.Ranges.{every-within}
+use Rattle.kinds.specs.Kinds.{IDENT, INC, DEC, RPAREN, RBRACK, RBRACE, BREAK, CONTINUE, FALLTHROUGH, RETURN}
+use Rattle.kinds.proofs.Ranges.{every-within}
 use Rattle.lexer.specs.Lexeme.{setsMark}
 use Rattle.lexer.proofs.lexed.sets_mark.Statement.{statement}
 use Rattle.lexer.proofs.lexed.sets_mark.Tie as tie

@@ -3,7 +3,7 @@ use Prim.Native.Nat.{_/_}
 use mathlib.Core.Path.{ap, _∙_}
 use native.Mathlib.Omega.{arith}
 use lib.Count.{trailingZeros, trailing-le}
-use Rattle.lanes.specs.Lanes.{lanes}
+use Rattle.swar.specs.Lanes.{lanes}
 use Rattle.quotes.specs.Steps.{stopMark}
 use Rattle.quotes.proofs.Stops.{run-marked}
 use Rattle.quotes.proofs.body.plain_at.Statement.{statement}

@@ -1,7 +1,7 @@
 -- `quotes::body::stops` meets its contract: nothing overflows, and each byte is marked by itself.
 use native.Mathlib.Omega.{arith}
 use borrow.Author.Needs.{needs}
-use Rattle.lanes.proofs.Marks.{aparts-fit}
+use Rattle.swar.proofs.Marks.{aparts-fit}
 use Rattle.quotes.proofs.Stops.{stops-each}
 use Rattle.quotes.proofs.body.stops.Statement.{statement}
 use Rattle.quotes.proofs.body.stops.Tie as tie

@@ -1,0 +1,37 @@
+// The classes of the kinds, and the precedence of the binary operators.
+use crate::*;
+ghost use mathlib.Core.Path.{_≡_};
+ghost use Rattle.kinds.specs.Table.{isLiteral, isOperator, isKeyword};
+ghost use Rattle.kinds.specs.Precedence.{precedenceOf};
+
+pub fn is_literal(kind: u8) -> bool
+    ensures { λ r. ⌜ r ≡ isLiteral kind ⌝ }
+{
+    IDENT <= kind && kind <= STRING
+}
+
+pub fn is_operator(kind: u8) -> bool
+    ensures { λ r. ⌜ r ≡ isOperator kind ⌝ }
+{
+    ADD <= kind && kind <= COLON
+}
+
+pub fn is_keyword(kind: u8) -> bool
+    ensures { λ r. ⌜ r ≡ isKeyword kind ⌝ }
+{
+    BREAK <= kind && kind <= VAR
+}
+
+// The precedence of a binary operator, 5 the highest; 0 of every other kind.
+pub fn precedence(kind: u8) -> usize
+    ensures { λ r. ⌜ r ≡ precedenceOf kind ⌝ }
+{
+    match kind {
+        LOR => 1,
+        LAND => 2,
+        EQL | NEQ | LSS | LEQ | GTR | GEQ => 3,
+        ADD | SUB | OR | XOR => 4,
+        MUL | QUO | REM | SHL | SHR | AND | AND_NOT => 5,
+        _ => 0,
+    }
+}

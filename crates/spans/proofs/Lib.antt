@@ -1,0 +1,9 @@
+pub mod Bodies
+pub mod Blocks
+pub mod Marks
+pub mod Lines
+pub mod Spans
+pub mod LineEnds
+pub mod Counts
+pub mod Texts
+pub mod Vectors
