@@ -15,7 +15,7 @@ use Rattle.utf8.specs.Chars.{chars}
 use Rattle.position.proofs.Place.{fit}
 use Rattle.blanks.specs.declared.Skipped.{Skipped}
 use Rattle.blanks.specs.Blank.{skip, skippedAt}
-use Rattle.position.specs.Place.{placed}
+use Rattle.position.specs.Place.{inRange}
 use Rattle.state.specs.Fits.{fileOf, fitsAlone, fitsTable, fitsSource, fitsList, fits}
 use Rattle.scanner.specs.declared.answer.Token.{Token}
 use Rattle.scanner.specs.Scan.{After, scanOf}
@@ -56,7 +56,7 @@ offset-within s src table list e =
     let b = and-split (fitsAlone s && fitsTable s table) (fitsSource s src) (a .0) in
     let d = and-split (fitsAlone s) (fitsTable s table) (b .0) in
     let both = leb (s .offset) (s .place) && leb (s .offset) (s .size) in
-    let g = and-split (both && leb 1 (s .lines)) (placed (fileOf s)) (d .0) in
+    let g = and-split (both && leb 1 (s .lines)) (inRange (fileOf s)) (d .0) in
     let k = and-split both (leb 1 (s .lines)) (g .0) in
     leb-true _ _ (and-split (leb (s .offset) (s .place)) (leb (s .offset) (s .size)) (k .0) .1)
 

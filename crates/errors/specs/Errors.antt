@@ -7,6 +7,7 @@ use lib.Dec.{leb, ltb}
 use lib.ListN.{length, getElem?}
 use lib.Seq.{sets}
 use Rattle.refusal.specs.Outcome.{Outcome, refused, gave}
+use Rattle.refusal.specs.Refusals.{DOES-NOT-FIT, LIST-FULL}
 use Rattle.errors.specs.declared.layout.Error.{Error}
 use Rattle.errors.specs.Layout.{width, numbers, errorAt}
 
@@ -30,9 +31,9 @@ addTo list n e =
     cond (leb n (roomOf list))
     (cond (ltb n (roomOf list))
     (record { list = sets list (n * width) (numbers e); outcome = gave (n + 1) })
-    (record { list = list; outcome = refused 8 }))
-    (record { list = list; outcome = refused 6 })
+    (record { list = list; outcome = refused LIST-FULL }))
+    (record { list = list; outcome = refused DOES-NOT-FIT })
 
 -- the error at an index of the first n
 unfoldable pub getOf : List ℕ → ℕ → ℕ → Outcome (Option Error)
-getOf list n i = cond (leb n (roomOf list)) (gave (getElem? (errorsOf n list) i)) (refused 6)
+getOf list n i = cond (leb n (roomOf list)) (gave (getElem? (errorsOf n list) i)) (refused DOES-NOT-FIT)

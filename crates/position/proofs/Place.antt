@@ -10,7 +10,7 @@ use borrow.Author.Tests.{leb-true, eqb-true, le-leb, eq-eqb}
 use Rattle.basics.proofs.Choice.{and-split}
 use Rattle.position.specs.declared.File.{File}
 use Rattle.position.specs.Lines.{lineStart}
-use Rattle.position.specs.Place.{placed, fitting, starts}
+use Rattle.position.specs.Place.{inRange, fitting, starts}
 use Rattle.position.proofs.Lines.{FromZero}
 
 pub record Fit (f : File) (table : List ℕ) : Type 0 where
@@ -20,7 +20,7 @@ pub record Fit (f : File) (table : List ℕ) : Type 0 where
   pub first : getD table 0 0 ≡ 0
 
 pub fit : (f : File) (table : List ℕ) → fitting f table ≡ true → Fit f table
-unfolding fitting placed
+unfolding fitting inRange
 fit f table e =
     let a = and-split _ _ e in
     let b = and-split _ _ (a .0) in
@@ -33,7 +33,7 @@ fit f table e =
     }
 
 pub fit-true : (f : File) (table : List ℕ) → Fit f table → fitting f table ≡ true
-unfolding fitting placed
+unfolding fitting inRange
 fit-true f table k = rw (le-leb _ _ (k .top), le-leb _ _ (k .some), le-leb _ _ (k .held), eq-eqb _ _ (k .first))
 
 module _ (f : File) (table : List ℕ) (k : Fit f table) where

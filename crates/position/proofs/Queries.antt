@@ -10,21 +10,21 @@ use Rattle.basics.proofs.Choice.{in-between, below-it, above-it}
 use Rattle.refusal.specs.Outcome.{refused, gave}
 use Rattle.position.specs.declared.File.{File}
 use Rattle.position.specs.Lines.{lineOf, lineStart, startOf, columnOf, positionAt}
-use Rattle.position.specs.Place.{placed, fitting, starts}
+use Rattle.position.specs.Place.{inRange, fitting, starts}
 use Rattle.position.specs.Queries.{posOf, positionOf, lineStartOf}
 use Rattle.position.proofs.Lines.{line-count, line-one, start-below}
 use Rattle.position.proofs.Place.{Fit, fit, from-zero, starts-length}
 
 module _ (f : File) (o : ℕ) where
-  pub pos-unplaced : placed f ≡ false → posOf f o ≡ refused 6
+  pub pos-unplaced : inRange f ≡ false → posOf f o ≡ refused 6
   unfolding posOf
   pos-unplaced e = rw e
 
-  pub pos-outside : placed f ≡ true → f .size < o → posOf f o ≡ refused 4
+  pub pos-outside : inRange f ≡ true → f .size < o → posOf f o ≡ refused 4
   unfolding posOf
   pos-outside e h = rw (e, lt-leb _ _ h)
 
-  pub pos-gave : placed f ≡ true → o ≤ f .size → posOf f o ≡ gave (f .base + o)
+  pub pos-gave : inRange f ≡ true → o ≤ f .size → posOf f o ≡ gave (f .base + o)
   unfolding posOf
   pos-gave e h = rw (e, le-leb _ _ h)
 

@@ -5,6 +5,7 @@ use mathlib.Core.List.{List}
 use lib.Dec.{ltb, eqb}
 use lib.ListN.{length, set}
 use Rattle.refusal.specs.Outcome.{Outcome, refused, gave}
+use Rattle.refusal.specs.Refusals.{DOES-NOT-FIT, TABLE-FULL}
 use Rattle.position.specs.declared.File.{File}
 use Rattle.position.specs.Lines.{lineStart}
 use Rattle.position.specs.Place.{fitting}
@@ -24,7 +25,7 @@ addLine f table o =
     cond (fitting f table)
     (cond (starting f table o)
     (cond (eqb (f .lines) (length table))
-    (record { table = table; outcome = refused 7 })
+    (record { table = table; outcome = refused TABLE-FULL })
     (record { table = set table (f .lines) o; outcome = gave (f .lines + 1) }))
     (record { table = table; outcome = gave (f .lines) }))
-    (record { table = table; outcome = refused 6 })
+    (record { table = table; outcome = refused DOES-NOT-FIT })

@@ -6,13 +6,17 @@ use lib.Dec.{leb, eqb}
 use lib.ListN.{length, getD, take}
 use Rattle.position.specs.declared.File.{File}
 
--- base + size is a position
-unfoldable pub placed : File → Bool
-placed f = leb (f .base + f .size) 4294967295
+-- the largest position
+abbrev pub maxPosition : ℕ
+maxPosition = 4294967295
+
+-- "base + size is at most 4,294,967,295"
+unfoldable pub inRange : File → Bool
+inRange f = leb (f .base + f .size) maxPosition
 
 -- besides, the line count is neither 0 nor above the table, and the first start is 0
 unfoldable pub fitting : File → List ℕ → Bool
-fitting f table = placed f && leb 1 (f .lines) && leb (f .lines) (length table) && eqb (getD table 0 0) 0
+fitting f table = inRange f && leb 1 (f .lines) && leb (f .lines) (length table) && eqb (getD table 0 0) 0
 
 -- the starts of the lines: the table's numbers up to the count
 abbrev pub starts : File → List ℕ → List ℕ

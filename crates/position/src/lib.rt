@@ -1,7 +1,7 @@
 // The positions of a text, and the table of the starts of its lines.
 ghost use mathlib.Core.Path.{_≡_};
 ghost use Rattle.position.specs.Lines.{lineOf};
-ghost use Rattle.position.specs.Place.{placed, fitting};
+ghost use Rattle.position.specs.Place.{inRange, fitting};
 ghost use Rattle.position.specs.Answers.{outcome, located};
 ghost use Rattle.position.specs.Queries.{posOf, positionOf, lineStartOf};
 ghost use Rattle.position.specs.Adding.{addLine};
@@ -48,14 +48,14 @@ fn line_of(starts: &[usize], offset: usize) -> usize
 
 impl File {
     // The largest position.
-    pub const MAX_POS: usize = 4_294_967_295;
+    pub const MAX_POSITION: usize = 4_294_967_295;
 
     // Base + size is a position.
-    pub fn is_placed(self) -> bool
-        ensures { λ r. ⌜ r ≡ placed self ⌝ }
+    pub fn in_range(self) -> bool
+        ensures { λ r. ⌜ r ≡ inRange self ⌝ }
     {
         let base = self.base;
-        base <= File::MAX_POS && self.size <= File::MAX_POS - base
+        base <= File::MAX_POSITION && self.size <= File::MAX_POSITION - base
     }
 
     // The file and its table go together.
@@ -63,7 +63,7 @@ impl File {
         ensures { λ r. ⌜ r ≡ fitting self (now (table .entry)) ⌝ }
     {
         let lines = self.lines;
-        if !self.is_placed() {
+        if !self.in_range() {
             return false;
         }
         if lines == 0 {
@@ -79,7 +79,7 @@ impl File {
     pub fn pos(self, offset: usize) -> Answer
         ensures { λ r. ⌜ outcome r ≡ posOf self offset ⌝ }
     {
-        if !self.is_placed() {
+        if !self.in_range() {
             return Answer::Refused(refusal::DOES_NOT_FIT);
         }
         if offset > self.size {

@@ -13,13 +13,14 @@ use Rattle.basics.proofs.Choice.{and-split}
 use Rattle.utf8.specs.Chars.{chars, wellFormed, bytesBefore}
 use Rattle.refusal.specs.Outcome.{gave}
 use Rattle.refusal.proofs.Outcomes.{refused-gave}
-use Rattle.position.specs.Place.{placed}
+use Rattle.position.specs.Place.{inRange}
 use Rattle.position.proofs.Lines.{FromZero}
 use Rattle.errors.specs.Errors.{errorsOf}
 use Rattle.reading.specs.Reading.{opened}
 use Rattle.state.specs.declared.state.State.{State}
 use Rattle.state.specs.Fits.{fileOf}
-use Rattle.state.specs.Opening.{maxSource, fresh, Begun, Opening, refusedWith, sized, openOf}
+use Rattle.state.specs.State.{fresh}
+use Rattle.state.specs.Opening.{maxSource, Begun, Opening, refusedWith, sized, openOf}
 use Rattle.scanner.specs.Scan.{view}
 use Rattle.runs.specs.Calls.{Held, Accepted}
 use Rattle.runs.proofs.Seen.{viewOf}
@@ -85,7 +86,7 @@ module _ {src : List ℕ} {base size : ℕ} {h : Held} where
   accepted-fits a = leb-true _ _ (and-split _ _ (checked a .sizes) .0)
 
   -- base + size is a position
-  pub accepted-placed : Accepted src base size h → placed (fileOf (h .state)) ≡ true
+  pub accepted-placed : Accepted src base size h → inRange (fileOf (h .state)) ≡ true
   unfolding fresh
   accepted-placed a = rw (accepted-state a) (and-split (leb (length (chars src)) size) _ (checked a .sizes) .1)
 

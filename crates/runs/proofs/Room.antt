@@ -8,18 +8,18 @@ use lib.ListN.{length, drop, length-drop}
 use borrow.Author.Tests.{leb-true, le-ltb}
 use Rattle.utf8.specs.Chars.{chars}
 use Rattle.utf8.proofs.Places.{place-chars}
-use Rattle.position.specs.Place.{placed as among}
+use Rattle.position.specs.Place.{inRange as among}
 use Rattle.position.proofs.Place.{Fit as FileFit, fit-true}
 use Rattle.errors.specs.Errors.{roomOf}
 use Rattle.lexer.specs.Lexeme.{Lexeme, taken}
 use Rattle.lexer.specs.Lex.{lex}
-use Rattle.lexer.specs.Placed.{Placed, placed}
+use Rattle.lexer.specs.Placed.{Placed, inRange}
 use Rattle.lexer.proofs.Laws.{lex-laws}
 use Rattle.reading.specs.Reading.{Reading, after}
 use Rattle.reading.specs.Run.{scanned, next}
 use Rattle.state.specs.declared.state.State.{State}
 use Rattle.state.specs.Fits.{fileOf, fits}
-use Rattle.state.specs.Opening.{fresh}
+use Rattle.state.specs.State.{fresh}
 use Rattle.scanner.specs.Scan.{view, written, startOf, toArea, tokenOf, refusalOf, After, withError, stateOf, gaveBy, unless, scanBy, scanOf}
 use Rattle.scanner.proofs.Scans.{Held as Holds}
 use Rattle.scanner.proofs.Fitting.{fits-held, held-after, passes}
@@ -93,7 +93,7 @@ module _ (src : List ℕ) (h : Held) (f : Fit src h) where
   x = scanned lex r
 
   abbrev p : Placed
-  p = placed src (startOf r x) x
+  p = inRange src (startOf r x) x
 
   abbrev u : Reading
   u = next lex (s .size) r
@@ -121,7 +121,7 @@ module _ (src : List ℕ) (h : Held) (f : Fit src h) where
     call-wants = unless-refusal refusal gives h area refl ∙ refusal-is
 
     pub fit-call : Fit src (left (call src area h))
-    unfolding call scanOf scanBy next scanned placed
+    unfolding call scanOf scanBy next scanned inRange
     fit-call =
         left-cases (Fit src) refusal gives h area f (λ z.
         let q = passes (fits s src (h .table) (h .list)) (s .size) u (length (h .table)) (roomOf (h .list)) (length (toArea p)) (length area) z in

@@ -8,7 +8,7 @@ use Rattle.basics.specs.Spelling.{spelled}
 use Rattle.utf8.specs.Chars.{chars}
 use Rattle.kinds.specs.Kinds.{ILLEGAL, EOF, COMMENT, IDENT, INT, STRING, SEMICOLON}
 use Rattle.errors.specs.declared.layout.Error.{Error}
-use Rattle.state.specs.Opening.{fresh}
+use Rattle.state.specs.State.{fresh}
 use Rattle.runs.specs.Calls.{Held, Accepted, Seen, play, tokens, errorsIn}
 
 -- what the table says of a token; without a text, `text` is []

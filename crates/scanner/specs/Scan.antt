@@ -5,6 +5,7 @@ use mathlib.Core.List.{List, [], _++_}
 use lib.Dec.{eqb, ltb}
 use lib.ListN.{length, take, drop}
 use lib.Seq.{sets}
+use Rattle.refusal.specs.Refusals.{BAD-SIZE, DOES-NOT-FIT, TABLE-FULL, LIST-FULL, AREA-FULL}
 use Rattle.utf8.specs.Chars.{chars, widths}
 use Rattle.kinds.specs.Kinds.{NONE, STRING}
 use Rattle.errors.specs.Layout.{width, numbers}
@@ -73,10 +74,10 @@ tokenOf base start s p =
 -- which refusal a scan gives, 0 for none: "a scan 6, 3, 7, 8, 9"
 abbrev pub refusalOf : Bool → ℕ → Reading → ℕ → ℕ → ℕ → ℕ → ℕ
 refusalOf fit size u table list toWrite area =
-    cond (not fit) 6
-    (cond (ltb size (u .offset)) 3
-    (cond (ltb table (length (u .lines))) 7
-    (cond (ltb list (length (u .errors))) 8 (cond (ltb area toWrite) 9 0))))
+    cond (not fit) DOES-NOT-FIT
+    (cond (ltb size (u .offset)) BAD-SIZE
+    (cond (ltb table (length (u .lines))) TABLE-FULL
+    (cond (ltb list (length (u .errors))) LIST-FULL (cond (ltb area toWrite) AREA-FULL 0))))
 
 -- what a scan leaves in the buffers, and its answer
 pub record After : Type 0 where

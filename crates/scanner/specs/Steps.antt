@@ -6,6 +6,7 @@ use mathlib.Core.List.{List}
 use lib.Dec.{eqb, ltb}
 use lib.ListN.{length, take, drop}
 use lib.Seq.{sets}
+use Rattle.refusal.specs.Refusals.{BAD-SIZE, TABLE-FULL, LIST-FULL, AREA-FULL}
 use Rattle.utf8.specs.Chars.{chars}
 use Rattle.kinds.specs.Kinds.{STRING}
 use Rattle.lines.specs.Starts.{startsRead}
@@ -37,9 +38,9 @@ toWrite x = cond (x .«text_differs») (textLen x) 0 + cond (x .«value_differs�
 -- the first refusal of 3, 7, 8, 9, or 0: for the offset reached, the line starts and errors then, and the lengths of the buffers
 abbrev pub refusalBy : Lexed → ℕ → ℕ → State → ℕ → ℕ → ℕ → ℕ
 refusalBy x offset starts s table list area =
-    cond (ltb (s .size) offset) 3
-    (cond (ltb table (s .lines + starts)) 7
-    (cond (ltb list (s .errors + cond (eqb (x .error) 0) 0 1)) 8 (cond (ltb area (toWrite x)) 9 0)))
+    cond (ltb (s .size) offset) BAD-SIZE
+    (cond (ltb table (s .lines + starts)) TABLE-FULL
+    (cond (ltb list (s .errors + cond (eqb (x .error) 0) 0 1)) LIST-FULL (cond (ltb area (toWrite x)) AREA-FULL 0)))
 
 -- the state after a token that ends at an offset and records so many line starts
 abbrev pub stateBy : Lexed → ℕ → ℕ → State → State

@@ -10,9 +10,10 @@ use borrow.Author.Tests.{le-leb, lt-leb, lt-ltb, le-ltb}
 use Rattle.utf8.specs.declared.Checked.the-variants.{Valid, Bad}
 use Rattle.utf8.specs.Chars.{chars, wellFormed, bytesBefore, checked}
 use Rattle.refusal.specs.Outcome.{gave}
-use Rattle.position.specs.Place.{placed}
+use Rattle.position.specs.Place.{inRange}
 use Rattle.state.specs.Fits.{fileOf}
-use Rattle.state.specs.Opening.{maxSource, fresh, refusedWith, openOf}
+use Rattle.state.specs.State.{fresh}
+use Rattle.state.specs.Opening.{maxSource, refusedWith, openOf}
 
 -- the two answers of a check, taken apart
 valid-split : (t : Bool) (m place : ℕ) {n : ℕ} → Valid n ≡ cond t (Valid m) (Bad place) → (t ≡ true) × (m ≡ n)
@@ -43,11 +44,11 @@ module _ (src : List ℕ) (base size : ℕ) (table : List ℕ) where
       unfolding openOf
       open-small h = rw (le-ltb _ _ short, valid .0, valid .1, lt-leb _ _ h)
 
-      pub open-unplaced : placed (fileOf (fresh base size)) ≡ false → openOf src base size table ≡ refusedWith 3 none table
+      pub open-unplaced : inRange (fileOf (fresh base size)) ≡ false → openOf src base size table ≡ refusedWith 3 none table
       unfolding openOf fresh
       open-unplaced h = rw (le-ltb _ _ short, valid .0, h, and-false)
 
-      module _ (h : n ≤ size) (g : placed (fileOf (fresh base size)) ≡ true) where
+      module _ (h : n ≤ size) (g : inRange (fileOf (fresh base size)) ≡ true) where
         pub open-full : length table ≡ 0 → openOf src base size table ≡ refusedWith 7 none table
         unfolding openOf fresh
         open-full z = rw (le-ltb _ _ short, valid .0, valid .1, le-leb _ _ h, g, z)

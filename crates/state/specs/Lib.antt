@@ -1,3 +1,4 @@
+pub mod State
 pub mod Fits
 pub mod Layout
 pub mod Opening

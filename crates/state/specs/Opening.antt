@@ -7,18 +7,16 @@ use lib.Dec.{ltb, leb}
 use lib.ListN.{length, set}
 use Rattle.utf8.specs.Chars.{chars, wellFormed, bytesBefore}
 use Rattle.refusal.specs.Outcome.{Outcome, refused, gave}
-use Rattle.position.specs.Place.{placed}
+use Rattle.refusal.specs.Refusals.{NOT-UTF8, TOO-LONG, BAD-SIZE, TABLE-FULL}
+use Rattle.position.specs.Place.{inRange}
 use Rattle.state.specs.declared.state.State.{State}
+use Rattle.state.specs.State.{fresh}
 use Rattle.state.specs.declared.opening.Opened.{Opened}
 use Rattle.state.specs.declared.opening.Opened.the-variants.{Ready, NotUtf8, Refused}
 
 -- "at most 1,048,576 bytes"
 abbrev pub maxSource : ℕ
 maxSource = 1048576
-
--- the first state: nothing is read, the first line start is recorded
-unfoldable pub fresh : ℕ → ℕ → State
-fresh base size = record { base = base; size = size; place = 0; offset = 0; mark = false; lines = 1; errors = 0 }
 
 -- "answers the first state and n"
 pub record Begun : Type 0 where
@@ -36,21 +34,21 @@ refusedWith number place table = record { table = table; outcome = refused numbe
 
 -- "The size is at least n; base + size is at most 4,294,967,295."
 abbrev pub sized : ℕ → ℕ → ℕ → Bool
-sized n base size = leb n size && placed (record { base = base; size = size; lines = 1 })
+sized n base size = leb n size && inRange (record { base = base; size = size; lines = 1 })
 
 -- "Opening checks 2, 1, 3, 7"
 unfoldable pub openOf : List ℕ → ℕ → ℕ → List ℕ → Opening
 openOf src base size table =
-    cond (ltb maxSource (length src)) (refusedWith 2 none table)
-    (cond (not (wellFormed src)) (refusedWith 1 (some (bytesBefore (chars src))) table)
-    (cond (not (sized (length (chars src)) base size)) (refusedWith 3 none table)
-    (cond (ltb (length table) 1) (refusedWith 7 none table)
+    cond (ltb maxSource (length src)) (refusedWith TOO-LONG none table)
+    (cond (not (wellFormed src)) (refusedWith NOT-UTF8 (some (bytesBefore (chars src))) table)
+    (cond (not (sized (length (chars src)) base size)) (refusedWith BAD-SIZE none table)
+    (cond (ltb (length table) 1) (refusedWith TABLE-FULL none table)
     (record { table = set table 0 0; outcome = gave (record { state = fresh base size; chars = length (chars src) }); place = none }))))
 
 -- what each answer of opening comes to
 abbrev pub outcomeOf : Opened → Outcome Begun
 outcomeOf (Ready state chars) = gave (record { state = state; chars = chars })
-outcomeOf (NotUtf8 place) = refused 1
+outcomeOf (NotUtf8 place) = refused NOT-UTF8
 outcomeOf (Refused number) = refused number
 
 abbrev pub placeOf : Opened → Option ℕ

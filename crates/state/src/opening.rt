@@ -26,7 +26,7 @@ pub fn open(src: &[u8], base: usize, size: usize, table: &mut [usize]) -> Opened
             if chars > size {
                 return Opened::Refused(refusal::BAD_SIZE);
             }
-            if !state.file().is_placed() {
+            if !state.file().in_range() {
                 return Opened::Refused(refusal::BAD_SIZE);
             }
             if table.len() == 0 {

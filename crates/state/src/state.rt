@@ -1,7 +1,7 @@
 // The state of a scan, which goes from call to call by value.
 ghost use mathlib.Core.Path.{_≡_};
 ghost use Rattle.state.specs.Fits.{fileOf, fitsAlone, fitsTable, fits};
-ghost use Rattle.state.specs.Opening.{fresh};
+ghost use Rattle.state.specs.State.{fresh, advance};
 
 pub struct State {
     // positions are base to base + size
@@ -21,6 +21,9 @@ impl State {
     // The longest source in bytes.
     pub const MAX_SOURCE: usize = 1_048_576;
 
+    // The largest position, and so the largest base + size.
+    pub const MAX_POSITION: usize = position::File::MAX_POSITION;
+
     // How many numbers a state is.
     pub const NUMBERS: usize = 7;
 
@@ -36,6 +39,28 @@ impl State {
             mark: false,
             lines: 1,
             errors: 0,
+        }
+    }
+
+    // The state of the same text further on, by all that a scan changes.
+    pub fn advanced(
+        self,
+        place: usize,
+        offset: usize,
+        mark: bool,
+        lines: usize,
+        errors: usize,
+    ) -> State
+        ensures { λ r. ⌜ r ≡ advance self place offset mark lines errors ⌝ }
+    {
+        State {
+            base: self.base,
+            size: self.size,
+            place,
+            offset,
+            mark,
+            lines,
+            errors,
         }
     }
 
@@ -63,7 +88,7 @@ impl State {
         if self.lines < 1 {
             return false;
         }
-        self.file().is_placed()
+        self.file().in_range()
     }
 
     // Does it go together with a table of line starts?

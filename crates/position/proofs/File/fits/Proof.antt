@@ -7,23 +7,23 @@ use Rattle.position.specs.Place.{fitting}
 use Rattle.position.proofs.File.fits.Statement.{statement}
 use Rattle.position.proofs.File.fits.Tie as tie
 
-is-placed-requires : tie.Need-is-placed-requires
-is-placed-requires c κs = search needs
+in-range-requires : tie.Need-in-range-requires
+in-range-requires c κs = search needs
 
 returns : tie.Need-returns
 unfolding fitting
-returns c = rw (sym (c .before .is-placed .ensures) ∙ not-true _ (c .if1 .taken))
+returns c = rw (sym (c .before .in-range .ensures) ∙ not-true _ (c .if1 .taken))
 
 returns-2 : tie.Need-returns-2
 unfolding fitting
-returns-2 c = rw (sym (c .before .before .is-placed .ensures) ∙ not-false _ (c .before .if1 .left), c .if2 .taken)
+returns-2 c = rw (sym (c .before .before .in-range .ensures) ∙ not-false _ (c .before .if1 .left), c .if2 .taken)
 
 returns-3 : tie.Need-returns-3
 unfolding fitting
 returns-3 c =
     let lines = c .before .before .before .before .before .args .self .lines in
     rw (
-      sym (c .before .before .before .is-placed .ensures) ∙ not-false _ (c .before .before .if1 .left),
+      sym (c .before .before .before .in-range .ensures) ∙ not-false _ (c .before .before .if1 .left),
       le-leb 1 lines (omega arith),
       lt-leb _ _ (c .if3 .taken),
     )
@@ -36,7 +36,7 @@ unfolding fitting
 returns-4 c =
     let lines = c .before .before .before .before .before .before .args .self .lines in
     rw (
-      sym (c .before .before .before .before .is-placed .ensures) ∙ not-false _ (c .before .before .before .if1 .left),
+      sym (c .before .before .before .before .in-range .ensures) ∙ not-false _ (c .before .before .before .if1 .left),
       le-leb 1 lines (omega arith),
       le-leb _ _ (c .before .if3 .left),
     )
@@ -44,4 +44,4 @@ returns-4 c =
 pub fits-spec : {M : Type 1} → statement M
 fits-spec =
     tie.close
-    (tie.spec is-placed-requires returns returns-2 returns-3 shared-slice-read-result returns-4)
+    (tie.spec in-range-requires returns returns-2 returns-3 shared-slice-read-result returns-4)

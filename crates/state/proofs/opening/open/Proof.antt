@@ -7,9 +7,10 @@ use borrow.Author.Needs.{needs}
 use borrow.Author.Tests.{not-true, not-false}
 use Rattle.utf8.specs.declared.Checked.the-variants.{Valid}
 use Rattle.utf8.specs.Chars.{checked}
-use Rattle.position.specs.Place.{placed}
+use Rattle.position.specs.Place.{inRange}
 use Rattle.state.specs.Fits.{fileOf}
-use Rattle.state.specs.Opening.{maxSource, fresh}
+use Rattle.state.specs.State.{fresh}
+use Rattle.state.specs.Opening.{maxSource}
 use Rattle.state.proofs.Opens.{open-long, open-bad, open-small, open-unplaced, open-full, open-ready}
 use Rattle.state.proofs.opening.open.Statement.{statement}
 use Rattle.state.proofs.opening.open.Tie as tie
@@ -47,13 +48,13 @@ returns-2 c =
 file-requires : tie.Need-file-requires
 file-requires c κs = search needs
 
-is-placed-requires : tie.Need-is-placed-requires
-is-placed-requires c κs = search needs
+in-range-requires : tie.Need-in-range-requires
+in-range-requires c κs = search needs
 
 -- what the first state's file says of its place
-place-of : (c : tie.After-is-placed)
-    → let a = c .before .before .before .before .before .before .before .before .before .before .before .args in c .is-placed .result ≡ placed (fileOf (fresh (a .base) (a .size)))
-place-of c = c .is-placed .ensures ∙ rw (c .before .file .ensures, c .before .before .before .new .ensures)
+place-of : (c : tie.After-in-range)
+    → let a = c .before .before .before .before .before .before .before .before .before .before .before .args in c .in-range .result ≡ inRange (fileOf (fresh (a .base) (a .size)))
+place-of c = c .in-range .ensures ∙ rw (c .before .file .ensures, c .before .before .before .new .ensures)
 
 returns-3 : tie.Need-returns-3
 returns-3 c =
@@ -95,7 +96,7 @@ open-spec =
     new-requires
     returns-2
     file-requires
-    is-placed-requires
+    in-range-requires
     returns-3
     returns-4
     slice-write-table

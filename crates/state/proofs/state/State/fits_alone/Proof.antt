@@ -17,8 +17,8 @@ returns-3 c =
 file-requires : tie.Need-file-requires
 file-requires c κs = search needs
 
-is-placed-requires : tie.Need-is-placed-requires
-is-placed-requires c κs = search needs
+in-range-requires : tie.Need-in-range-requires
+in-range-requires c κs = search needs
 
 returns-4 : tie.Need-returns-4
 returns-4 c =
@@ -26,9 +26,9 @@ returns-4 c =
       le-leb _ _ (c .before .before .before .before .before .before .if1 .left),
       le-leb _ _ (c .before .before .before .before .if2 .left),
       le-leb _ _ (c .before .before .if3 .left),
-      c .is-placed .ensures,
+      c .in-range .ensures,
       c .before .file .ensures,
     )
 
 pub fits-alone-spec : {M : Type 1} → statement M
-fits-alone-spec = tie.close (tie.spec returns returns-2 returns-3 file-requires is-placed-requires returns-4)
+fits-alone-spec = tie.close (tie.spec returns returns-2 returns-3 file-requires in-range-requires returns-4)

@@ -1,6 +1,6 @@
 -- `State::new` meets its contract by computing.
 use mathlib.Core.Path.{refl}
-use Rattle.state.specs.Opening.{fresh}
+use Rattle.state.specs.State.{fresh}
 use Rattle.state.proofs.state.State.new.Statement.{statement}
 use Rattle.state.proofs.state.State.new.Tie as tie
 
