@@ -65,6 +65,17 @@ pub(crate) fn refused(number: u8, state: State) -> Scanned
     }
 }
 
+// A token, and the state after it.
+pub(crate) fn gave(state: State, token: Token) -> Scanned
+    ensures { λ r. ⌜ r ≡ record { refusal = 0; state = state; token = token } ⌝ }
+{
+    Scanned {
+        refusal: 0,
+        state,
+        token,
+    }
+}
+
 // A part from a place on, by the lexer's count of its bytes.
 fn part_from(area: bool, start: usize, bytes: usize, strays: usize) -> Part
     requires { ⌜ start + lengthOf bytes strays area < 2 ^ 64 ⌝ }

@@ -1,5 +1,6 @@
 // One scan: a pass that only reads, the checks, and then what is written.
 use crate::answer::Scanned;
+use crate::answer::gave;
 use crate::answer::position_at;
 use crate::answer::refused;
 use crate::answer::token_of;
@@ -180,11 +181,7 @@ fn commit(
     let after = state_after(x, state.offset + read, starts, state);
     let token = token_of(x, start, position_at(state, start));
     write_token(src, state, after, start, x, read, starts, table, list, area);
-    Scanned {
-        refusal: 0,
-        state: after,
-        token,
-    }
+    gave(after, token)
 }
 
 // What a scan comes to by the blanks and the token that it read, so many characters in all: the checks, and then what is written.
@@ -239,13 +236,7 @@ fn scan_next(
     if !tried.done {
         return finish(src, state, blanks, x, read, table, list, area);
     }
-    let next = tried.state;
-    let token = tried.token;
-    Scanned {
-        refusal: 0,
-        state: next,
-        token,
-    }
+    gave(tried.state, tried.token)
 }
 
 // Scans one token.

@@ -21,6 +21,9 @@ token-of-requires c κs = search needs
 write-token-requires : tie.Need-write-token-requires
 write-token-requires c κs = search needs
 
+gave-requires : tie.Need-gave-requires
+gave-requires c κs = search needs
+
 same-length : tie.Need-same-length
 same-length c = search needs
 
@@ -32,13 +35,13 @@ same-length-3 c = search needs
 
 returns : tie.Need-returns
 returns c =
-    let w = c .before .before .before .before .before .before in
+    let w = c .before .before .before .before .before .before .before in
     let t = w .before .before .before .before in
     let n = t .before .before in
     let a = n .before .before .before .before .before .before .args in
     commit-is (a .src .now) (a .state) (a .start) (a .x) (a .read) (a .starts) (a .table .now) (a .list .now) (a .area .now)
     (w .write-token .ensures)
-    (rw (t .token-of .ensures, t .before .position-at .ensures, n .state-after .ensures))
+    (rw (c .gave .ensures, t .token-of .ensures, t .before .position-at .ensures, n .state-after .ensures))
 
 pub commit-spec : {M : Type 1} → statement M
 commit-spec =
@@ -49,6 +52,7 @@ commit-spec =
     position-at-requires
     token-of-requires
     write-token-requires
+    gave-requires
     same-length
     same-length-2
     same-length-3

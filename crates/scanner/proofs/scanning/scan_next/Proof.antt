@@ -59,6 +59,9 @@ returns c =
     let a = entry (i .before .before .before .before) .args in
     d .finish .ensures ∙ ap (λ (t : List ℕ). scanOf (a .src .now) (a .state) t (a .list .now) (a .area .now)) (unchanged i)
 
+gave-requires : tie.Need-gave-requires
+gave-requires c κs = search needs
+
 same-length-4 : tie.Need-same-length-4
 same-length-4 c = search needs
 
@@ -67,9 +70,9 @@ same-length-5 c = search needs
 
 returns-2 : tie.Need-returns-2
 returns-2 c =
-    let e = c .before .before in
+    let e = c .before in
     let t = e .before .before .before .before in
-    sym (t .try-plain .ensures .1 (not-false _ (e .if1 .left)) (entry t .args .area .now))
+    rw (c .gave .ensures) (sym (t .try-plain .ensures .1 (not-false _ (e .if1 .left)) (entry t .args .area .now)))
 
 pub scan-next-spec : {M : Type 1} → statement M
 scan-next-spec =
@@ -84,6 +87,7 @@ scan-next-spec =
     same-length-2
     same-length-3
     returns
+    gave-requires
     same-length-4
     same-length-5
     returns-2)
