@@ -77,7 +77,12 @@ module _ (src : List ℕ) (s : State) (start : ℕ) (x : Lexed) (read starts : �
   unfolding said
   nothing p = rw (plain x p .1, plain x p .2)
 
-  pub plain-left : {t : List ℕ} → isPlain x ≡ true → t ≡ recorded
+  plain-left : {t : List ℕ} → isPlain x ≡ true → t ≡ recorded
       → _≡_ {A = Left} (record { table = t; list = list; area = area }) (leftOf src s start x read starts table list area)
   unfolding leftOf
   plain-left p f = rw (f, nothing p, plain x p .0)
+
+  pub commit-plain-is : {t : List ℕ} {a : Scanned} → isPlain x ≡ true → t ≡ recorded
+      → a ≡ record { refusal = 0; state = after; token = tokenBy x start (positionBy s start) }
+      → _≡_ {A = After} (record { table = t; list = list; area = area; answer = a }) (commitOf src s start x read starts table list area)
+  commit-plain-is p f g = commit-is (plain-left p f) g

@@ -25,7 +25,7 @@ use Rattle.scanner.specs.Steps.{toWrite, refusalBy, isPlain, startsFrom,
 use Rattle.scanner.specs.Quick.{notDone, endsInFeed, startAfter, isQuick, QuickReady, quickToken, Tries}
 use Rattle.scanner.proofs.Pass as pass
 use Rattle.scanner.proofs.Refusals.{refusal-none, list-none}
-use Rattle.scanner.proofs.Committed.{plain, plain-left, commit-is}
+use Rattle.scanner.proofs.Committed.{plain, commit-plain-is}
 use Rattle.scanner.proofs.Scans.{Held, held, scan-gave}
 use Rattle.scanner.proofs.Ends.{blanks-starts, starts-parted}
 
@@ -121,9 +121,8 @@ module _ (src : List ℕ) (s : State) (table list : List ℕ) (b : Skipped) (x :
         λ _ area.
             scan-gave src s table list area kept (b .end) at x (k .reads .token) (k .holds) (b .lfs + x .lfs) counted (not-refused area)
             ∙ sym
-            (commit-is src s (b .end) x read (b .lfs + x .lfs) table list area
-            (plain-left src s (b .end) x read (b .lfs + x .lfs) table list area p
-            (w ∙ ap (sets table (s .lines)) (sym (starts-parted src s (b .end) at x (k .reads .token) l f))))
+            (commit-plain-is src s (b .end) x read (b .lfs + x .lfs) table list area p
+            (w ∙ ap (sets table (s .lines)) (sym (starts-parted src s (b .end) at x (k .reads .token) l f)))
             (rw (e, plain x p .0, add-zero))),
       )
 
