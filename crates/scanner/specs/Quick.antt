@@ -1,4 +1,4 @@
--- Quick scans. No public contract cites this.
+-- Steps of the code. No public contract cites this file. Scans of tokens that are given at once.
 use Prim.Native.Nat.{ℕ, _+_, _-_, _≤_, _<_, _^_}
 use mathlib.Core.Path.{_≡_}
 use mathlib.Core.Bool.{Bool, true, false, cond, _&&_}

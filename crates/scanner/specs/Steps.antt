@@ -1,12 +1,11 @@
--- The steps of the code of a scan, by the lexer's answer.
+-- Steps of the code. No public contract cites this file. A scan by the lexer's answer.
 use Prim.Native.Nat.{ℕ, _+_, _*_, _-_, _≤_, _<_, _^_}
 use mathlib.Core.Path.{_≡_}
 use mathlib.Core.Bool.{Bool, true, cond, not, _&&_}
 use mathlib.Core.List.{List}
-use lib.Dec.{eqb, ltb}
+use lib.Dec.{eqb}
 use lib.ListN.{length, take, drop}
 use lib.Seq.{sets}
-use Rattle.refusal.specs.Refusals.{BAD-SIZE, TABLE-FULL, LIST-FULL, AREA-FULL}
 use Rattle.utf8.specs.Chars.{chars}
 use Rattle.kinds.specs.Kinds.{STRING}
 use Rattle.lines.specs.Starts.{startsRead}
@@ -23,7 +22,7 @@ use Rattle.state.specs.declared.state.State.{State}
 use Rattle.scanner.specs.declared.answer.Token.{Token}
 use Rattle.state.specs.State.{advance}
 use Rattle.state.specs.Fits.{fileOf, fits}
-use Rattle.scanner.specs.Scan.{partFrom, written, toArea, After}
+use Rattle.scanner.specs.Scan.{partFrom, written, toArea, refusalFor, After}
 
 -- how many bytes text and value have
 abbrev pub textLen : Lexed → ℕ
@@ -39,9 +38,14 @@ toWrite x = cond (x .«text_differs») (textLen x) 0 + cond (x .«value_differs�
 -- the first refusal of 3, 7, 8, 9, or 0: for the offset reached, the line starts and errors then, and the lengths of the buffers
 abbrev pub refusalBy : Lexed → ℕ → ℕ → State → ℕ → ℕ → ℕ → ℕ
 refusalBy x offset starts s table list area =
-    cond (ltb (s .size) offset) BAD-SIZE
-    (cond (ltb table (s .lines + starts)) TABLE-FULL
-    (cond (ltb list (s .errors + cond (eqb (x .error) 0) 0 1)) LIST-FULL (cond (ltb area (toWrite x)) AREA-FULL 0)))
+    refusalFor true
+    (record {
+      offset = offset;
+      lines = s .lines + starts;
+      errors = s .errors + cond (eqb (x .error) 0) 0 1;
+      bytes = toWrite x;
+    })
+    (record { offset = s .size; lines = table; errors = list; bytes = area })
 
 -- the state after a token that ends at an offset and records so many line starts
 abbrev pub stateBy : Lexed → ℕ → ℕ → State → State
