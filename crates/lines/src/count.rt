@@ -23,7 +23,7 @@ pub fn count_starts(src: &[u8], at: usize, count: usize, offset: usize, size: us
         }
         let b = src[p];
         o += 1;
-        if b == 10 {
+        if b == b'\n' {
             n += 1;
             p += 1;
         } else if b < 128 {

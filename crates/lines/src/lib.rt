@@ -42,7 +42,7 @@ pub fn write_starts(
         }
         let b = src[p];
         o += 1;
-        if b == 10 {
+        if b == b'\n' {
             if table.len() <= n {
                 return;
             }

@@ -1,5 +1,6 @@
 -- Numbers, from the characters that are left: how many are read, kind, error, and how the text differs from what was read.
 use Prim.Native.Nat.{ℕ, _+_}
+use Prim.Native.Char.{code}
 use mathlib.Core.Bool.{false, cond, _&&_, _||_}
 use mathlib.Core.List.{List}
 use lib.Dec.{leb, eqb}
@@ -7,6 +8,7 @@ use lib.ListN.{drop}
 use Rattle.utf8.specs.declared.Char.{Char}
 use Rattle.utf8.specs.Chars.{peek}
 use Rattle.kinds.specs.Kinds.{ILLEGAL, INT, FLOAT, IMAG}
+use Rattle.errors.specs.Numbers.{BAD-BINARY, BAD-OCTAL, BAD-HEXADECIMAL, MISPLACED-UNDERSCORE, BAD-EXPONENT}
 use Rattle.digits.specs.Digit.{isDecimal}
 use Rattle.numbers.specs.declared.Number.{Number}
 use Rattle.numbers.specs.declared.Spelling.{Spelling}
@@ -31,42 +33,42 @@ illegal error len s = record { kind = ILLEGAL; len = len; error = error; spellin
 abbrev pub after : ℕ → Reading → Reading
 after n x = record { kind = x .kind; len = n + x .len; error = x .error; spelling = x .spelling }
 
--- the digits of an exponent: error 4 for a misplaced underscore, 5 where there is no digit
+-- the digits of an exponent
 abbrev pub exponentDigits : Spelling → Run → Reading
-exponentDigits s d = cond (d .misplaced) (illegal 4 (d .len) s) (cond (eqb (d .len) 0) (illegal 5 0 s) (good FLOAT (d .len) s))
+exponentDigits s d = cond (d .misplaced) (illegal MISPLACED-UNDERSCORE (d .len) s) (cond (eqb (d .len) 0) (illegal BAD-EXPONENT 0 s) (good FLOAT (d .len) s))
 
 -- after the e: a sign, if there is one, and digits
 unfoldable pub exponent : Spelling → List Char → Reading
 exponent s r =
-    cond (eqb (peek r) 43 || eqb (peek r) 45) (after 1 (exponentDigits s (strictRun 10 (drop 1 r))))
+    cond (eqb (peek r) (code "+") || eqb (peek r) (code "-")) (after 1 (exponentDigits s (strictRun 10 (drop 1 r))))
     (exponentDigits s (strictRun 10 r))
 
 -- after the digits: an exponent, whose e is written lower case, or the number ends here
 unfoldable pub finish : ℕ → List Char → Reading
 finish kind r =
-    cond (eqb (peek r) 101) (after 1 (exponent AsRead (drop 1 r)))
-    (cond (eqb (peek r) 69) (after 1 (exponent LowerExponent (drop 1 r))) (good kind 0 AsRead))
+    cond (eqb (peek r) (code "e")) (after 1 (exponent AsRead (drop 1 r)))
+    (cond (eqb (peek r) (code "E")) (after 1 (exponent LowerExponent (drop 1 r))) (good kind 0 AsRead))
 
 -- after the point
 unfoldable pub fraction : List Char → Reading
 fraction r =
-    cond (strictRun 10 r .misplaced) (illegal 4 (strictRun 10 r .len) AsRead)
+    cond (strictRun 10 r .misplaced) (illegal MISPLACED-UNDERSCORE (strictRun 10 r .len) AsRead)
     (after (strictRun 10 r .len) (finish FLOAT (drop (strictRun 10 r .len) r)))
 
 -- after the digits of a decimal number: a point and a fraction, an exponent, or nothing
 unfoldable pub decimalRest : List Char → Reading
-decimalRest r = cond (eqb (peek r) 46) (after 1 (fraction (drop 1 r))) (finish INT r)
+decimalRest r = cond (eqb (peek r) (code ".")) (after 1 (fraction (drop 1 r))) (finish INT r)
 
 -- a decimal number
 unfoldable pub decimal : List Char → Reading
 decimal r =
-    cond (digitRun 10 false r .misplaced) (illegal 4 (digitRun 10 false r .len) AsRead)
+    cond (digitRun 10 false r .misplaced) (illegal MISPLACED-UNDERSCORE (digitRun 10 false r .len) AsRead)
     (after (digitRun 10 false r .len) (decimalRest (drop (digitRun 10 false r .len) r)))
 
 -- the digits of a prefixed number, and what stands next: a binary or octal number ends before no decimal digit
 abbrev pub prefixedDigits : ℕ → ℕ → Spelling → Run → ℕ → Reading
 prefixedDigits base error s d next =
-    cond (d .misplaced) (illegal 4 (d .len) s)
+    cond (d .misplaced) (illegal MISPLACED-UNDERSCORE (d .len) s)
     (cond (eqb (d .len) 0) (illegal error 0 s)
     (cond (leb base 8 && isDecimal next) (illegal error (d .len) s) (good INT (d .len) s)))
 
@@ -76,30 +78,30 @@ prefixed base error s r = prefixedDigits base error s (digitRun base false r) (p
 
 -- a 0 without a prefix: "A 0 followed by a digit is octal"; any other starts a decimal
 unfoldable pub bareZero : List Char → Reading
-bareZero r = cond (isDecimal (peek (drop 1 r))) (after 1 (prefixed 8 2 OctalPrefix (drop 1 r))) (decimal r)
+bareZero r = cond (isDecimal (peek (drop 1 r))) (after 1 (prefixed 8 BAD-OCTAL OctalPrefix (drop 1 r))) (decimal r)
 
 -- a number that starts with 0, by the character b after it
 abbrev pub zeroBy : ℕ → List Char → Reading
 zeroBy b r =
-    cond (eqb b 120) (after 2 (prefixed 16 3 AsRead (drop 2 r)))
-    (cond (eqb b 88) (after 2 (prefixed 16 3 LowerPrefix (drop 2 r)))
-    (cond (eqb b 111) (after 2 (prefixed 8 2 AsRead (drop 2 r)))
-    (cond (eqb b 79) (after 2 (prefixed 8 2 LowerPrefix (drop 2 r)))
-    (cond (eqb b 98) (after 2 (prefixed 2 1 AsRead (drop 2 r)))
-    (cond (eqb b 66) (after 2 (prefixed 2 1 LowerPrefix (drop 2 r))) (bareZero r))))))
+    cond (eqb b (code "x")) (after 2 (prefixed 16 BAD-HEXADECIMAL AsRead (drop 2 r)))
+    (cond (eqb b (code "X")) (after 2 (prefixed 16 BAD-HEXADECIMAL LowerPrefix (drop 2 r)))
+    (cond (eqb b (code "o")) (after 2 (prefixed 8 BAD-OCTAL AsRead (drop 2 r)))
+    (cond (eqb b (code "O")) (after 2 (prefixed 8 BAD-OCTAL LowerPrefix (drop 2 r)))
+    (cond (eqb b (code "b")) (after 2 (prefixed 2 BAD-BINARY AsRead (drop 2 r)))
+    (cond (eqb b (code "B")) (after 2 (prefixed 2 BAD-BINARY LowerPrefix (drop 2 r))) (bareZero r))))))
 
 unfoldable pub leadingZero : List Char → Reading
 leadingZero r = zeroBy (peek (drop 1 r)) r
 
 -- a number but for an i that may follow
 unfoldable pub withoutI : List Char → Reading
-withoutI r = cond (eqb (peek r) 46) (after 1 (fraction (drop 1 r))) (cond (eqb (peek r) 48) (leadingZero r) (decimal r))
+withoutI r = cond (eqb (peek r) (code ".")) (after 1 (fraction (drop 1 r))) (cond (eqb (peek r) (code "0")) (leadingZero r) (decimal r))
 
 -- "A following i makes INT or FLOAT an IMAG."
 abbrev pub imaginary : Reading → ℕ → Reading
 imaginary x next =
     cond (eqb (x .kind) ILLEGAL) x
-    (cond (eqb next 105) (record { kind = IMAG; len = x .len + 1; error = 0; spelling = x .spelling }) x)
+    (cond (eqb next (code "i")) (record { kind = IMAG; len = x .len + 1; error = 0; spelling = x .spelling }) x)
 
 unfoldable pub number : List Char → Reading
 number r = imaginary (withoutI r) (peek (drop (withoutI r .len) r))

@@ -1,5 +1,6 @@
 -- Runs of digits: "An underscore stands between digits or after a prefix, never doubled, never last."
 use Prim.Native.Nat.{ℕ, suc, _+_}
+use Prim.Native.Char.{code}
 use mathlib.Core.Bool.{Bool, true, false, cond}
 use mathlib.Core.List.{List, [], _∷_}
 use lib.Dec.{ltb, eqb}
@@ -25,12 +26,12 @@ unfoldable pub digitRun : ℕ → Bool → List Char → Run
 digitRun base under [] = stop under
 digitRun base under (c ∷ r) =
     cond (ltb (digitVal (c .code)) base) (more (digitRun base false r))
-    (cond (eqb (c .code) 95) (cond under (stop true) (more (digitRun base true r))) (stop under))
+    (cond (eqb (c .code) (code "_")) (cond under (stop true) (more (digitRun base true r))) (stop under))
 
 -- the same where no underscore may stand first
 unfoldable pub strictRun : ℕ → List Char → Run
 strictRun base [] = stop false
-strictRun base (c ∷ r) = cond (eqb (c .code) 95) (stop true) (digitRun base false (c ∷ r))
+strictRun base (c ∷ r) = cond (eqb (c .code) (code "_")) (stop true) (digitRun base false (c ∷ r))
 
 -- a run that starts at a place, as the code gives it
 abbrev pub digitsAt : ℕ → Run → Digits

@@ -25,7 +25,7 @@ pub(crate) fn scan_digits(src: &[u8], at: usize, base: u8) -> Digits
             under = false;
             p += 1;
         } else {
-            if b != 95 {
+            if b != b'_' {
                 return Digits {
                     end: p,
                     misplaced: under,
@@ -52,7 +52,7 @@ pub(crate) fn scan_strict_digits(src: &[u8], at: usize, base: u8) -> Digits
     requires { ⌜ base ≤ 16 ⌝ }
     ensures { λ r. ⌜ r ≡ digitsAt at (strictRun base (chars (drop at (now (src .entry))))) ⌝ }
 {
-    if utf8::byte(src, at) == 95 {
+    if utf8::byte(src, at) == b'_' {
         return Digits {
             end: at,
             misplaced: true,

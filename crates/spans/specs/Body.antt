@@ -1,5 +1,6 @@
 -- What is read of a body, from the characters left, and the text that it has.
 use Prim.Native.Nat.{ℕ, _+_, _-_}
+use Prim.Native.Char.{code}
 use mathlib.Core.Bool.{Bool, false, cond}
 use mathlib.Core.List.{List, [], _∷_, _++_}
 use lib.Dec.{eqb}
@@ -28,10 +29,10 @@ abbrev pub stopBody : ℕ → ℕ → List Char → Body
 stopBody stop at r = bodyOf at (toStop stop r) r
 
 abbrev pub rawBody : ℕ → List Char → Body
-rawBody at r = stopBody 96 at r
+rawBody at r = stopBody (code "`") at r
 
 abbrev pub lineBody : ℕ → List Char → Body
-lineBody at r = stopBody 10 at r
+lineBody at r = stopBody (code "\n") at r
 
 abbrev pub blockBody : ℕ → List Char → Body
 blockBody at r = bodyOf at (toStarSlash false r) r

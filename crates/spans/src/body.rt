@@ -52,8 +52,8 @@ fn grow(src: &[u8], body: Body, last: bool) -> Body
             end: at + 1,
             chars: body.chars + 1,
             closed: last,
-            lfs: body.lfs + one_if(b == 10),
-            crs: body.crs + one_if(b == 13),
+            lfs: body.lfs + one_if(b == b'\n'),
+            crs: body.crs + one_if(b == b'\r'),
             strays: body.strays,
         };
     }
@@ -99,14 +99,14 @@ fn body_to(src: &[u8], at: usize, stop: u8) -> Body
 pub fn raw_body(src: &[u8], at: usize) -> Body
     ensures { λ r. ⌜ r ≡ rawBody at (chars (drop at (now (src .entry)))) ⌝ }
 {
-    body_to(src, at, 96)
+    body_to(src, at, b'`')
 }
 
 // Of a line comment, from after its two slashes.
 pub fn line_body(src: &[u8], at: usize) -> Body
     ensures { λ r. ⌜ r ≡ lineBody at (chars (drop at (now (src .entry)))) ⌝ }
 {
-    body_to(src, at, 10)
+    body_to(src, at, b'\n')
 }
 
 // Of a general comment, from after its opening.
@@ -120,7 +120,7 @@ pub fn block_body(src: &[u8], at: usize) -> Body
     while body.end < src.len() {
         let p = body.end;
         if !star & (tried <= p) {
-            if plain::is_block(src, p, 42) {
+            if plain::is_block(src, p, b'*') {
                 body.end = p + 16;
                 body.chars += 16;
                 continue;
@@ -128,12 +128,12 @@ pub fn block_body(src: &[u8], at: usize) -> Body
             tried = p + 16;
         }
         let b = src[p];
-        let closes = star & (b == 47);
+        let closes = star & (b == b'/');
         body = grow(src, body, closes);
         if closes {
             return body;
         }
-        star = b == 42;
+        star = b == b'*';
     }
     body
 }

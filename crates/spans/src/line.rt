@@ -20,7 +20,7 @@ fn blank_to_end(src: &[u8], at: usize) -> bool
     let mut p = at;
     while p < src.len() {
         let b = src[p];
-        if b == 10 {
+        if b == b'\n' {
             return true;
         }
         if !blanks::is_space(b) {
@@ -53,14 +53,14 @@ fn comment_end(src: &[u8], at: usize) -> Stop
             break Stop::End { lf: false };
         }
         let b = src[p];
-        if b == 10 {
+        if b == b'\n' {
             break Stop::End { lf: true };
         }
         p = next_place(src, p);
-        if star & (b == 47) {
+        if star & (b == b'/') {
             break Stop::Closed(p);
         }
-        star = b == 42;
+        star = b == b'*';
     };
     stop
 }

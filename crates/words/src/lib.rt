@@ -11,19 +11,19 @@ ghost use Rattle.words.specs.Near.{nearRun};
 pub fn is_letter(b: u8) -> bool
     ensures { λ r. ⌜ r ≡ isLetter b ⌝ }
 {
-    if b < 65 {
+    if b < b'A' {
         return false;
     }
-    if b < 91 {
+    if b <= b'Z' {
         return true;
     }
-    if b == 95 {
+    if b == b'_' {
         return true;
     }
-    if b < 97 {
+    if b < b'a' {
         return false;
     }
-    b < 123
+    b <= b'z'
 }
 
 // For each of eight bytes 0x80 where it is no letter and no digit, else 0. A test's answer is the top bit of each byte: that of a sum
