@@ -6,11 +6,11 @@ use lib.Dec.{ltb}
 use lib.ListN.{length}
 use Rattle.utf8.specs.declared.Char.{Char}
 use Rattle.utf8.specs.Count.{isLf}
-use Rattle.position.specs.Lines.{lineStart}
+use Rattle.position.specs.Lines.{lineStart, isRecorded}
 
 -- a start that was read, among the starts recorded so far
 abbrev pub recorded : ℕ → ℕ → List ℕ → List ℕ
-recorded size start starts = cond (ltb (lineStart starts (length starts)) start && ltb start size) (starts ++ (start ∷ [])) starts
+recorded size start starts = cond (isRecorded (lineStart starts (length starts)) size start) (starts ++ (start ∷ [])) starts
 
 -- the starts recorded after the characters cs are read from an offset on
 unfoldable pub readLines : ℕ → ℕ → List Char → List ℕ → List ℕ
