@@ -79,8 +79,8 @@ pub fn near_run(src: &[u8], at: usize) -> Near
         };
     }
     let len = u64::trailing_zeros(marks) as usize / 8;
-    Near {
-        len,
-        number: bytes % (1u64 << (8 * len)),
-    }
+    let bits = 8 * len;
+    let above = 1u64 << bits;
+    let number = bytes % above;
+    Near { len, number }
 }

@@ -23,9 +23,9 @@ ok c = sym (c .before .in-range .ensures) ∙ not-false _ (c .if1 .left)
 returns-2 : tie.Need-returns-2
 returns-2 c = sym (pos-outside _ _ (ok (c .before .before)) (c .if2 .taken))
 
-add-t5 : tie.Need-add-t5
+add-position : tie.Need-add-position
 unfolding inRange
-add-t5 c =
+add-position c =
     let f = c .before .before .before .before .before .args .self in
     omega (arith, leb-true (f .base + f .size) 4294967295 (ok (c .before .before .before)))
 
@@ -33,4 +33,4 @@ returns-3 : tie.Need-returns-3
 returns-3 c = sym (pos-gave _ _ (ok (c .before .before .before)) (c .before .if2 .left))
 
 pub pos-spec : {M : Type 1} → statement M
-pos-spec = tie.close (tie.spec in-range-requires returns returns-2 add-t5 returns-3)
+pos-spec = tie.close (tie.spec in-range-requires returns returns-2 add-position returns-3)
