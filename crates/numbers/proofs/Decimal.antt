@@ -20,7 +20,7 @@ use Rattle.numbers.specs.declared.Spelling.the-variants.{AsRead}
 use Rattle.numbers.specs.Run.{Run, more, digitRun}
 use Rattle.numbers.specs.Number.{decimal, bareZero, zeroBy, withoutI, number, numberAt}
 use Rattle.numbers.proofs.Runs.{run-end, run-digit, run-other}
-use Rattle.numbers.proofs.Readings.{finish-end, rest-plain, decimal-good, bare-decimal, zero-is, without-zero, without-other}
+use Rattle.numbers.proofs.Numerals.{finish-end, rest-plain, decimal-good, bare-decimal, zero-is, without-zero, without-other}
 use Rattle.numbers.proofs.Placed.{number-other}
 
 -- the number of a decimal digit, and of any other byte

@@ -19,7 +19,7 @@ use Rattle.numbers.specs.declared.Spelling.{Spelling}
 use Rattle.numbers.specs.declared.Spelling.the-variants.{AsRead, LowerPrefix, OctalPrefix, LowerExponent}
 use Rattle.numbers.specs.Run.{Run, stop, more, digitRun, strictRun}
 use Rattle.numbers.proofs.Runs.{digit-from}
-use Rattle.numbers.specs.Number.{Reading, after, illegal, good, exponentDigits, exponent, finish, fraction, decimalRest, decimal, prefixed, bareZero, leadingZero, withoutI, number}
+use Rattle.numbers.specs.Number.{Numeral, after, illegal, good, exponentDigits, exponent, finish, fraction, decimalRest, decimal, prefixed, bareZero, leadingZero, withoutI, number}
 
 -- ---- runs of digits
 RunLocal : (List Char → Run) → List Char → List Char → Type 0
@@ -56,20 +56,20 @@ strict-local base b (c ∷ r) t h = go (eqb (c .code) 95) (unfold RunLocal in ru
     go false q = q
 
 -- ---- readings
-abbrev Local : (List Char → Reading) → List Char → List Char → Type 0
+abbrev Local : (List Char → Numeral) → List Char → List Char → Type 0
 Local f r t = (f (r ++ t) ≡ f r) × (f r .len < length r)
 
-abbrev Locally : (List Char → Reading) → Type 0
+abbrev Locally : (List Char → Numeral) → Type 0
 Locally f = (r t : List Char) → Ends r → Local f r t
 
 -- a choice by a test that more text behind does not change
-by-test : (r t : List Char) (p q : Bool) (a b c d : Reading) → p ≡ q → (q ≡ true → (a ≡ c) × (c .len < length r)) → (q ≡ false → (b ≡ d) × (d .len < length r))
+by-test : (r t : List Char) (p q : Bool) (a b c d : Numeral) → p ≡ q → (q ≡ true → (a ≡ c) × (c .len < length r)) → (q ≡ false → (b ≡ d) × (d .len < length r))
     → (cond p a b ≡ cond q c d) × (cond q c d .len < length r)
 by-test r t p true a b c d e f g = let h = f refl in (rw e (h .0), h .1)
 by-test r t p false a b c d e f g = let h = g refl in (rw e (h .0), h .1)
 
 -- n characters on
-on : (n : ℕ) (f : List Char → Reading) → Locally f → (r t : List Char) → Ends r → n < length r
+on : (n : ℕ) (f : List Char → Numeral) → Locally f → (r t : List Char) → Ends r → n < length r
     → (after n (f (drop n (r ++ t))) ≡ after n (f (drop n r))) × (after n (f (drop n r)) .len < length r)
 on n f l r t h k =
     let q = l (drop n r) t (ends-drop n r k h) in

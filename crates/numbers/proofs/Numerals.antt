@@ -17,11 +17,11 @@ use Rattle.digits.specs.Digit.{isDecimal}
 use Rattle.numbers.specs.declared.Spelling.{Spelling}
 use Rattle.numbers.specs.declared.Spelling.the-variants.{AsRead, OctalPrefix, LowerExponent}
 use Rattle.numbers.specs.Run.{Run, digitRun, strictRun}
-use Rattle.numbers.specs.Number.{Reading, after, exponentDigits, exponent, finish, fraction, decimalRest, decimal, prefixedDigits, prefixed, bareZero, zeroBy, leadingZero, withoutI, numberAt}
+use Rattle.numbers.specs.Number.{Numeral, after, exponentDigits, exponent, finish, fraction, decimalRest, decimal, prefixedDigits, prefixed, bareZero, zeroBy, leadingZero, withoutI, numberAt}
 use Rattle.numbers.proofs.Runs.{run-place, strict-place, next-place}
 
 -- n characters on
-at-after : (at n : ℕ) (x : Reading) → numberAt at (after n x) ≡ numberAt (at + n) x
+at-after : (at n : ℕ) (x : Numeral) → numberAt at (after n x) ≡ numberAt (at + n) x
 at-after at n x = rw (← add-assoc at n (x .len))
 
 pub digit-next : (s : List ℕ) (p : ℕ) → isDecimal (peek (chars (drop p s))) ≡ isDecimal (getD s p 0)

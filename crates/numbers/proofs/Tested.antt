@@ -21,7 +21,7 @@ use Rattle.digits.specs.Digit.{digitVal, isDecimal}
 use Rattle.numbers.specs.declared.Spelling.{Spelling}
 use Rattle.numbers.specs.declared.Spelling.the-variants.{AsRead, LowerPrefix, OctalPrefix, LowerExponent}
 use Rattle.numbers.specs.Run.{digitRun, strictRun}
-use Rattle.numbers.specs.Number.{Reading, after, exponentDigits, exponent, finish, fraction, decimalRest, decimal, prefixed, bareZero, leadingZero, withoutI, number}
+use Rattle.numbers.specs.Number.{Numeral, after, exponentDigits, exponent, finish, fraction, decimalRest, decimal, prefixed, bareZero, leadingZero, withoutI, number}
 use Rattle.numbers.proofs.Runs.{Plain, plain-none, plain-more, plain-within, run-plain, strict-plain}
 
 -- the kinds that a number may have
@@ -79,7 +79,7 @@ module _ (r : List Char) where
     pub spelled : Spelled sp r n
     pub some : Starts r → 0 < n
 
-  abbrev Read : Reading → Type 0
+  abbrev Read : Numeral → Type 0
   Read x = Begun (x .spelling) (x .len) × T (isNumeric (x .kind))
 
   -- m characters more
@@ -88,7 +88,7 @@ module _ (r : List Char) where
       record { plain = plain-add n m r (b .plain) f; spelled = spelled-on sp r n m (b .spelled); some = λ h. omega (arith, b .some h) }
 
   -- what follows m characters more
-  on : (n m : ℕ) (f : List Char → Reading) → Read (after (n + m) (f (drop (n + m) r))) → Read (after n (after m (f (drop m (drop n r)))))
+  on : (n m : ℕ) (f : List Char → Numeral) → Read (after (n + m) (f (drop (n + m) r))) → Read (after n (after m (f (drop m (drop n r)))))
   on n m f h = rw (drop-drop m n r, ← add-assoc n m (f (drop (n + m) r) .len)) h
 
   -- ---- an exponent

@@ -16,7 +16,7 @@ use Rattle.spans.specs.declared.body.Body.{Body}
 use Rattle.spans.specs.Span.{Span, more, toStarSlash}
 use Rattle.spans.specs.Body.{grown}
 use Rattle.spans.specs.Plain.{special, anySpecial, plainBlock, PlainRun}
-use Rattle.spans.proofs.Bodies.{Reading, reading-next, grown-ascii, same-body, slash-more}
+use Rattle.spans.proofs.Bodies.{PartRead, part-next, grown-ascii, same-body, slash-more}
 
 -- ---- the test of a block
 any-snoc : (x : ℕ) (s : List ℕ) (b : ℕ) → anySpecial x (s ++ (b ∷ [])) ≡ anySpecial x s || special x b
@@ -66,12 +66,12 @@ slash-on star k s p h e r = slash-more s p h r star (rw k) ∙ ap (λ t. more (t
 -- f goes on at a plain byte
 module _ (w : Body) (f : List Char → Span) (x : ℕ) (s : List ℕ)
     (on : (p : ℕ) → p < length s → eqb (getD s p 0) x ≡ false → (r : List Char) → f (charAt s p ∷ r) ≡ more (f r)) where
-  pub reading-plain : (n : ℕ) (b : Body) → PlainRun x s (b .end) n → Reading w f s b → Reading w f s (skipped b n)
-  reading-plain zero b h i = rw (add-zero (b .end), add-zero (b .chars)) i
-  reading-plain (suc n) b h i =
+  pub part-plain : (n : ℕ) (b : Body) → PlainRun x s (b .end) n → PartRead w f s b → PartRead w f s (skipped b n)
+  part-plain zero b h i = rw (add-zero (b .end), add-zero (b .chars)) i
+  part-plain (suc n) b h i =
       let l : b .end < length s = omega arith in
       let q = none-of (special x (getD s (b .end) 0)) (anySpecial x (take n (drop (b .end + 1) s))) (rw (drop-next s (b .end) 0 l) at (h .plain)) in
       let k = none-of (ltb (getD s (b .end) 0) 14 || ltb 127 (getD s (b .end) 0)) (eqb (getD s (b .end) 0) x) (q .0) in
-      let j = reading-next w f s b i l (skipped b 1) false (one-plain x s b l (i .not-yet) (q .0)) refl f (on (b .end) l (k .1)) in
+      let j = part-next w f s b i l (skipped b 1) false (one-plain x s b l (i .not-yet) (q .0)) refl f (on (b .end) l (k .1)) in
       let a : (m : ℕ) → m + 1 + n ≡ m + suc n = λ m. omega arith in
-      rw (a (b .end), a (b .chars)) at (reading-plain n (skipped b 1) (record { fits = omega arith; plain = q .1 }) j)
+      rw (a (b .end), a (b .chars)) at (part-plain n (skipped b 1) (record { fits = omega arith; plain = q .1 }) j)

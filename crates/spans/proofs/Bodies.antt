@@ -124,21 +124,21 @@ module _ (s : List ℕ) (b : Body) (h : b .end < length s) (t : Bool) where
       (same-body refl refl refl (sym (add-zero _)) (sym (add-zero _)) refl)
 
 -- ---- a loop that reads a body: w is the whole one, of a text s; f finds the span in what is left
-pub record Reading (w : Body) (f : List Char → Span) (s : List ℕ) (b : Body) : Type 0 where
+pub record PartRead (w : Body) (f : List Char → Span) (s : List ℕ) (b : Body) : Type 0 where
   pub counted : Counted b
   pub not-yet : b .closed ≡ false
   pub rest : w ≡ whole f s b
 
-pub reading-start : (f : List Char → Span) (s : List ℕ) (at : ℕ) (b : Body) → b ≡ emptyAt at → Reading (bodyOf at (f (chars (drop at s))) (chars (drop at s))) f s b
-reading-start f s at b e = rw e (record { counted = counted-empty at; not-yet = refl; rest = whole-start f s at })
+pub part-start : (f : List Char → Span) (s : List ℕ) (at : ℕ) (b : Body) → b ≡ emptyAt at → PartRead (bodyOf at (f (chars (drop at s))) (chars (drop at s))) f s b
+part-start f s at b e = rw e (record { counted = counted-empty at; not-yet = refl; rest = whole-start f s at })
 
-module _ (w : Body) (f : List Char → Span) (s : List ℕ) (b : Body) (i : Reading w f s b) where
-  pub reading-end : f [] ≡ unclosed → length s ≤ b .end → b ≡ w
-  reading-end e h = sym (i .rest ∙ whole-end f s b e h (i .not-yet))
+module _ (w : Body) (f : List Char → Span) (s : List ℕ) (b : Body) (i : PartRead w f s b) where
+  pub part-end : f [] ≡ unclosed → length s ≤ b .end → b ≡ w
+  part-end e h = sym (i .rest ∙ whole-end f s b e h (i .not-yet))
 
   module _ (h : b .end < length s) (a : Body) (t : Bool) (e : a ≡ grown b (charAt s (b .end)) t) where
-    pub reading-last : t ≡ true → ((r : List Char) → f (charAt s (b .end) ∷ r) ≡ last) → a ≡ w
-    reading-last k l = e ∙ ap (grown b (charAt s (b .end))) k ∙ sym (i .rest ∙ whole-last f s b h l)
+    pub part-last : t ≡ true → ((r : List Char) → f (charAt s (b .end) ∷ r) ≡ last) → a ≡ w
+    part-last k l = e ∙ ap (grown b (charAt s (b .end))) k ∙ sym (i .rest ∙ whole-last f s b h l)
 
     -- the body that has grown ends farther on, within the text
     pub grown-end : (b .end < a .end) × (a .end ≤ length s)
@@ -147,9 +147,9 @@ module _ (w : Body) (f : List Char → Span) (s : List ℕ) (b : Body) (i : Read
         let z = ap (λ (x : Body). x .end) e in
         (omega (arith, there-least s (b .end) _ h refl), omega (arith, there-fits s (b .end) _ h refl))
 
-    pub reading-next : t ≡ false → (g : List Char → Span) → ((r : List Char) → f (charAt s (b .end) ∷ r) ≡ more (g r)) → Reading w g s a
+    pub part-next : t ≡ false → (g : List Char → Span) → ((r : List Char) → f (charAt s (b .end) ∷ r) ≡ more (g r)) → PartRead w g s a
     unfolding grown
-    reading-next k g l =
+    part-next k g l =
         record {
           counted = rw e (counted-grown b (charAt s (b .end)) t (there-least s (b .end) _ h refl) (i .counted));
           not-yet = ap (λ (x : Body). x .closed) e ∙ k;

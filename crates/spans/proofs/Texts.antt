@@ -21,7 +21,7 @@ use Rattle.utf8.proofs.Places.{code-there, place-fits}
 use Rattle.utf8.proofs.Append.{first-stray}
 use Rattle.utf8.proofs.Encoding.{first-coded, octets-two, octets-three, octets-four}
 use Rattle.utf8.specs.Count.{isCr, one, count}
-use Rattle.spans.specs.Body.{written, clean}
+use Rattle.spans.specs.Body.{cleaned, clean}
 
 -- ---- one character, the first of a text
 module _ (t : List ℕ) (z : 0 < length t) where
@@ -31,7 +31,7 @@ module _ (t : List ℕ) (z : 0 < length t) where
   cr-char : isCr (firstChar t) ≡ true → firstChar t ≡ ascii 13
   cr-char e = let b = cr-byte e in ascii-there t 0 z (omega arith) ∙ ap ascii b
 
-  char-length : length (written (firstChar t)) + one (isCr (firstChar t)) ≡ firstChar t .width + 2 * one (isStray (firstChar t))
+  char-length : length (cleaned (firstChar t)) + one (isCr (firstChar t)) ≡ firstChar t .width + 2 * one (isStray (firstChar t))
   unfolding encode octets
   char-length =
       ⊎-elim
@@ -43,7 +43,7 @@ module _ (t : List ℕ) (z : 0 < length t) where
       (either (isStray (firstChar t))))
       (either (isCr (firstChar t)))
 
-  char-same : isCr (firstChar t) ≡ false → isStray (firstChar t) ≡ false → written (firstChar t) ≡ take (firstChar t .width) t
+  char-same : isCr (firstChar t) ≡ false → isStray (firstChar t) ≡ false → cleaned (firstChar t) ≡ take (firstChar t .width) t
   char-same e g = rw e (first-coded t z g)
 
 -- ---- the length of the text
@@ -125,16 +125,16 @@ octets-no-cr n e =
       ]
     ]
 
-written-no-cr : (c : Char) → crsOf (written c) ≡ 0
+cleaned-no-cr : (c : Char) → crsOf (cleaned c) ≡ 0
 unfolding crsOf encode
-written-no-cr c =
+cleaned-no-cr c =
     cond-ind (λ l. crsOf l ≡ 0) (isCr c) [] (encode (c .code)) (λ e. refl)
     (λ e. cond-ind (λ l. crsOf l ≡ 0) (isScalar (c .code)) (octets (c .code)) [] (λ g. octets-no-cr (c .code) e) (λ g. refl))
 
 clean-no-cr : (cs : List Char) → crsOf (clean cs) ≡ 0
 unfolding clean crsOf
 clean-no-cr [] = refl
-clean-no-cr (c ∷ cs) = crs-append (written c) (clean cs) ∙ ap₂ _+_ (written-no-cr c) (clean-no-cr cs)
+clean-no-cr (c ∷ cs) = crs-append (cleaned c) (clean cs) ∙ ap₂ _+_ (cleaned-no-cr c) (clean-no-cr cs)
 
 char-crs : (t : List ℕ) → 0 < length t → one (isCr (firstChar t)) ≤ crsOf (take (firstChar t .width) t)
 unfolding crsOf
@@ -205,4 +205,4 @@ clean-differs s k p h =
 pub clean-append : (a b : List Char) → clean (a ++ b) ≡ clean a ++ clean b
 unfolding clean
 clean-append [] b = refl
-clean-append (c ∷ a) b = rw (clean-append a b) (sym (append-assoc (written c) (clean a) (clean b)))
+clean-append (c ∷ a) b = rw (clean-append a b) (sym (append-assoc (cleaned c) (clean a) (clean b)))

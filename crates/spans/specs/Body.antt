@@ -58,10 +58,10 @@ grown b c closes =
     }
 
 -- the bytes that a character has in the text of a comment or a raw string: a CR is dropped, a stray byte is written as U+FFFD
-abbrev pub written : Char → List ℕ
-written c = cond (isCr c) [] (encode (c .code))
+abbrev pub cleaned : Char → List ℕ
+cleaned c = cond (isCr c) [] (encode (c .code))
 
 -- the text of characters there
 unfoldable pub clean : List Char → List ℕ
 clean [] = []
-clean (c ∷ cs) = written c ++ clean cs
+clean (c ∷ cs) = cleaned c ++ clean cs

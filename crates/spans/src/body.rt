@@ -47,24 +47,30 @@ fn grow(src: &[u8], body: Body, last: bool) -> Body
 {
     let at = body.end;
     let b = src[at];
+    let chars = body.chars + 1;
     if b < 128 {
+        let end = at + 1;
+        let lfs = body.lfs + one_if(b == b'\n');
+        let crs = body.crs + one_if(b == b'\r');
         return Body {
-            end: at + 1,
-            chars: body.chars + 1,
+            end,
+            chars,
             closed: last,
-            lfs: body.lfs + one_if(b == b'\n'),
-            crs: body.crs + one_if(b == b'\r'),
+            lfs,
+            crs,
             strays: body.strays,
         };
     }
     let c = utf8::char_at(src, at);
+    let end = at + c.width;
+    let strays = body.strays + one_if(utf8::is_stray(c));
     Body {
-        end: at + c.width,
-        chars: body.chars + 1,
+        end,
+        chars,
         closed: last,
         lfs: body.lfs,
         crs: body.crs,
-        strays: body.strays + one_if(utf8::is_stray(c)),
+        strays,
     }
 }
 

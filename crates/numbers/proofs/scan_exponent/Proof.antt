@@ -2,7 +2,7 @@
 use mathlib.Core.Path.{sym, _∙_}
 use native.Mathlib.Omega.{arith}
 use Rattle.basics.proofs.Lists.{reach}
-use Rattle.numbers.proofs.Readings.{exponent-plus, exponent-minus, exponent-plain}
+use Rattle.numbers.proofs.Numerals.{exponent-plus, exponent-minus, exponent-plain}
 use borrow.Author.Needs.{needs}
 use Rattle.numbers.proofs.scan_exponent.Statement.{statement}
 use Rattle.numbers.proofs.scan_exponent.Tie as tie

@@ -9,7 +9,7 @@ use Rattle.utf8.specs.Chars.{chars, peek}
 use Rattle.digits.specs.Digit.{isDecimal}
 use Rattle.numbers.specs.Run.{digitRun}
 use Rattle.numbers.specs.Number.{numberAt}
-use Rattle.numbers.proofs.Readings.{prefixed-there, prefixed-bad, prefixed-none, prefixed-on, prefixed-good}
+use Rattle.numbers.proofs.Numerals.{prefixed-there, prefixed-bad, prefixed-none, prefixed-on, prefixed-good}
 use borrow.Author.Needs.{needs}
 use Rattle.numbers.proofs.scan_prefixed.Statement.{statement}
 use Rattle.numbers.proofs.scan_prefixed.Tie as tie

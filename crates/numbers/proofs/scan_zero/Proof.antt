@@ -7,7 +7,7 @@ use borrow.Author.Tests.{ne-eqb}
 use Rattle.basics.proofs.Lists.{reach}
 use Rattle.numbers.specs.declared.Spelling.the-variants.{AsRead, LowerPrefix}
 use Rattle.numbers.specs.Number.{numberAt}
-use Rattle.numbers.proofs.Readings.{zero-is, zero-prefix}
+use Rattle.numbers.proofs.Numerals.{zero-is, zero-prefix}
 use borrow.Author.Needs.{needs}
 use Rattle.numbers.proofs.scan_zero.Statement.{statement}
 use Rattle.numbers.proofs.scan_zero.Tie as tie

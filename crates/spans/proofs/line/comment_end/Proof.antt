@@ -1,4 +1,4 @@
--- `bodies::line::comment_end` meets its contract. The loop's invariant: what is left of the text gives the answer.
+-- `spans::line::comment_end` meets its contract. The loop's invariant: what is left of the text gives the answer.
 use Prim.Native.Nat.{_-_, _<_}
 use mathlib.Core.Path.{_≡_, refl, sym, _∙_}
 use mathlib.Core.Bool.{false}
