@@ -1,4 +1,4 @@
--- What the private count of tabs by eight bytes says. No public contract cites this.
+-- Steps of the code. No public contract cites this file.
 use Prim.Native.Nat.{ℕ, _+_, _≤_, _<_}
 use Prim.Native.Char.{code}
 use mathlib.Core.Path.{_≡_}

@@ -25,7 +25,7 @@ pub fn is_space(b: u8) -> bool
     b == b'\r'
 }
 
-// Skips blanks byte by byte. Which bytes up to a space are blanks is told by the bits of a number.
+// Skips blanks byte by byte. Which bytes up to a space are blanks is told by the bits of a number: 9 and 13 (tab, CR), 32 (space), and 10 (LF).
 fn skip_bytes(src: &[u8], at: usize, mark: bool) -> Skipped
     ensures { λ r. ⌜ r ≡ skippedAt at (skip mark (chars (drop at (now (src .entry))))) ⌝ }
 {
@@ -54,6 +54,7 @@ fn skip_bytes(src: &[u8], at: usize, mark: bool) -> Skipped
 fn tabs(src: &[u8], at: usize) -> usize
     ensures { λ r. ⌜ TabsAt (now (src .entry)) at r ⌝ }
 {
+    // 0x09 is b'\t'
     u64::trailing_zeros(swar::eight(src, at) ^ 0x0909_0909_0909_0909) as usize / 8
 }
 

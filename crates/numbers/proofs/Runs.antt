@@ -19,7 +19,8 @@ use Rattle.utf8.proofs.First.{chars-at, chars-end, chars-ascii}
 use Rattle.utf8.proofs.Places.{code-there, ascii-place}
 use Rattle.digits.specs.Digit.{digitVal}
 use Rattle.digits.proofs.Digits.{digit-low, digit-there}
-use Rattle.numbers.specs.Run.{Run, stop, more, digitRun, strictRun, digitsAt}
+use Rattle.numbers.specs.Run.{Run, stop, more, digitRun, strictRun}
+use Rattle.numbers.specs.Steps.{digitsAt}
 
 -- one character on from a place
 pub digits-more : (p : ℕ) (d : Run) → digitsAt p (more d) ≡ digitsAt (p + 1) d

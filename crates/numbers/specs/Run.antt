@@ -1,12 +1,11 @@
 -- Runs of digits: "An underscore stands between digits or after a prefix, never doubled, never last."
-use Prim.Native.Nat.{ℕ, suc, _+_}
+use Prim.Native.Nat.{ℕ, suc}
 use Prim.Native.Char.{code}
 use mathlib.Core.Bool.{Bool, true, false, cond}
 use mathlib.Core.List.{List, [], _∷_}
 use lib.Dec.{ltb, eqb}
 use Rattle.utf8.specs.declared.Char.{Char}
 use Rattle.digits.specs.Digit.{digitVal}
-use Rattle.numbers.specs.declared.run.Digits.{Digits}
 
 -- how many characters a run has, and whether an underscore is misplaced where it stopped
 pub record Run : Type 0 where
@@ -32,7 +31,3 @@ digitRun base under (c ∷ r) =
 unfoldable pub strictRun : ℕ → List Char → Run
 strictRun base [] = stop false
 strictRun base (c ∷ r) = cond (eqb (c .code) (code "_")) (stop true) (digitRun base false (c ∷ r))
-
--- a run that starts at a place, as the code gives it
-abbrev pub digitsAt : ℕ → Run → Digits
-digitsAt at d = record { end = at + d .len; misplaced = d .misplaced }

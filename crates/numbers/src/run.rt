@@ -4,7 +4,8 @@ ghost use mathlib.Core.Bool.{false};
 ghost use Prim.Native.Nat.{_≤_};
 ghost use lib.ListN.{drop};
 ghost use Rattle.utf8.specs.Chars.{chars};
-ghost use Rattle.numbers.specs.Run.{digitsAt, digitRun, strictRun};
+ghost use Rattle.numbers.specs.Run.{digitRun, strictRun};
+ghost use Rattle.numbers.specs.Steps.{digitsAt};
 
 // A run of digits and underscores: the place after it, and whether an underscore is misplaced where it stopped.
 pub(crate) struct Digits {

@@ -14,7 +14,8 @@ use Rattle.utf8.proofs.First.{chars-end, charAt-ascii, there-chars, there-least
 use Rattle.spans.specs.declared.body.Body.{Body}
 use Rattle.spans.specs.Span.{Span, unclosed, last, more, toStop, toStarSlash}
 use Rattle.utf8.specs.Count.{isLf, isCr, one, count}
-use Rattle.spans.specs.Body.{bodyOf, emptyAt, grown}
+use Rattle.spans.specs.Body.{bodyOf}
+use Rattle.spans.specs.Steps.{emptyAt, grown}
 use Rattle.spans.specs.Counted.{Counted}
 use Rattle.utf8.proofs.Count.{one-le, code-at}
 

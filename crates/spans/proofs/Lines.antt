@@ -17,7 +17,8 @@ use Rattle.blanks.proofs.Blanks.{space-high}
 use Rattle.spans.specs.declared.line.Stop.{Stop}
 use Rattle.spans.specs.declared.line.Stop.the-variants.{Closed, End}
 use Rattle.utf8.proofs.Count.{code-at}
-use Rattle.spans.specs.Line.{blankToEnd, stopFrom, endsLine}
+use Rattle.spans.specs.Line.{blankToEnd, endsLine}
+use Rattle.spans.specs.Steps.{stopFrom}
 
 module _ (s : List ℕ) (p : ℕ) where
   pub blank-end : length s ≤ p → blankToEnd (chars (drop p s)) ≡ true

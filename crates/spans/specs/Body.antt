@@ -7,7 +7,7 @@ use lib.Dec.{eqb}
 use lib.ListN.{take}
 use Rattle.utf8.specs.declared.Char.{Char}
 use Rattle.utf8.specs.Chars.{widths, isStray, encode}
-use Rattle.utf8.specs.Count.{isLf, isCr, one, count}
+use Rattle.utf8.specs.Count.{isLf, isCr, count}
 use Rattle.spans.specs.declared.body.Body.{Body}
 use Rattle.spans.specs.Span.{Span, toStop, toStarSlash}
 
@@ -40,22 +40,6 @@ blockBody at r = bodyOf at (toStarSlash false r) r
 -- how many characters of a raw string's span belong to its value: not the closing backquote
 abbrev pub rawInside : Span → ℕ
 rawInside s = cond (s .closed) (s .len - 1) (s .len)
-
--- nothing of a body is read yet
-abbrev pub emptyAt : ℕ → Body
-emptyAt at = record { end = at; chars = 0; closed = false; lfs = 0; crs = 0; strays = 0 }
-
--- a body with one character more
-unfoldable pub grown : Body → Char → Bool → Body
-grown b c closes =
-    record {
-      end = b .end + c .width;
-      chars = b .chars + 1;
-      closed = closes;
-      lfs = b .lfs + one (isLf c);
-      crs = b .crs + one (isCr c);
-      strays = b .strays + one (isStray c);
-    }
 
 -- the bytes that a character has in the text of a comment or a raw string: a CR is dropped, a stray byte is written as U+FFFD
 abbrev pub cleaned : Char → List ℕ

@@ -1,5 +1,4 @@
 -- Whether a general comment ends its line: "holds an LF, is never closed, or has only spaces, tabs and CRs between it and an LF or the end".
-use Prim.Native.Nat.{ℕ, _+_}
 use Prim.Native.Char.{code}
 use mathlib.Core.Bool.{Bool, true, false, cond, _&&_}
 use mathlib.Core.List.{List, [], _∷_}
@@ -7,8 +6,6 @@ use lib.Dec.{eqb}
 use Rattle.utf8.specs.declared.Char.{Char}
 use Rattle.utf8.specs.Count.{isLf}
 use Rattle.blanks.specs.Blank.{isSpace}
-use Rattle.spans.specs.declared.line.Stop.{Stop}
-use Rattle.spans.specs.declared.line.Stop.the-variants.{Closed, End}
 
 -- only spaces, tabs and CRs up to an LF or the end
 unfoldable pub blankToEnd : List Char → Bool
@@ -21,10 +18,3 @@ endsLine star [] = true
 endsLine star (c ∷ r) =
     cond (isLf c) true
     (cond (star && eqb (c .code) (code "/")) (blankToEnd r) (endsLine (eqb (c .code) (code "*")) r))
-
--- where and how the search for the comment's end stops within its line: closed before a place, or at the end or at an LF
-unfoldable pub stopFrom : ℕ → Bool → List Char → Stop
-stopFrom at star [] = End false
-stopFrom at star (c ∷ r) =
-    cond (isLf c) (End true)
-    (cond (star && eqb (c .code) (code "/")) (Closed (at + c .width)) (stopFrom (at + c .width) (eqb (c .code) (code "*")) r))

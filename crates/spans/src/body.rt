@@ -5,7 +5,8 @@ ghost use Prim.Native.Nat.{_<_};
 ghost use lib.ListN.{length, drop};
 ghost use Rattle.utf8.specs.Chars.{charAt, chars};
 ghost use Rattle.utf8.specs.Count.{one};
-ghost use Rattle.spans.specs.Body.{emptyAt, grown, stopBody, rawBody, lineBody, blockBody};
+ghost use Rattle.spans.specs.Body.{stopBody, rawBody, lineBody, blockBody};
+ghost use Rattle.spans.specs.Steps.{emptyAt, grown};
 ghost use Rattle.spans.specs.Counted.{Counted};
 
 // What is read of a body: where it ends, how many characters it has, whether its closing was read, and how many of its

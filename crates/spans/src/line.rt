@@ -5,7 +5,8 @@ ghost use Prim.Native.Nat.{_<_};
 ghost use lib.ListN.{length, drop};
 ghost use Rattle.utf8.specs.Chars.{chars};
 ghost use Rattle.reader.specs.Read.{readPlace};
-ghost use Rattle.spans.specs.Line.{blankToEnd, stopFrom, endsLine};
+ghost use Rattle.spans.specs.Line.{blankToEnd, endsLine};
+ghost use Rattle.spans.specs.Steps.{stopFrom};
 
 // Where and how the search for a comment's end stopped: closed before a place, or at the end of its line or of the source.
 pub(crate) enum Stop {

@@ -8,7 +8,7 @@ use lib.ListN.{length, drop}
 use Rattle.utf8.specs.Chars.{chars, charAt}
 use Rattle.utf8.proofs.First.{there-least}
 use Rattle.reader.specs.Read.{readPlace}
-use Rattle.spans.specs.Line.{stopFrom}
+use Rattle.spans.specs.Steps.{stopFrom}
 use Rattle.spans.proofs.Lines.{stop-end, stop-lf, stop-closed, stop-next}
 use Rattle.spans.proofs.line.comment_end.Statement.{statement}
 use Rattle.spans.proofs.line.comment_end.Tie as tie
