@@ -14,6 +14,7 @@ use Rattle.utf8.specs.declared.Char.{Char}
 use Rattle.utf8.specs.Chars.{peek}
 use Rattle.utf8.proofs.Ends.{Ends, ends-tail, ends-some, ends-drop, peek-append, more-behind}
 use Rattle.kinds.specs.Kinds.{ILLEGAL, INT, FLOAT, IMAG}
+use Rattle.errors.specs.Numbers.{MISPLACED-UNDERSCORE}
 use Rattle.digits.specs.Digit.{digitVal, isDecimal}
 use Rattle.numbers.specs.declared.Spelling.{Spelling}
 use Rattle.numbers.specs.declared.Spelling.the-variants.{AsRead, LowerPrefix, OctalPrefix, LowerExponent}
@@ -131,13 +132,12 @@ prefixed-local base error sp b r t h =
     let q = run-local base b false r t h in
     let d = digitRun base false r in
     let p = peek-append (d .len) r t (q .1) in
-    rw (q .0, p) (refl, cond-len (d .misplaced) (eqb (d .len) 0) (leb base 8 && isDecimal (peek (drop (d .len) r))) (d .len) (q .1))
+    rw (q .0, p) (refl, cond-len (d .misplaced) (eqb (d .len) 0 || (leb base 8 && isDecimal (peek (drop (d .len) r)))) (d .len) (q .1))
   where
-    cond-len : (x y z : Bool) (n : ℕ) → n < length r → cond x (illegal 4 n sp) (cond y (illegal error 0 sp) (cond z (illegal error n sp) (good INT n sp))) .len < length r
-    cond-len true y z n l = l
-    cond-len false true z n l = omega arith
-    cond-len false false true n l = l
-    cond-len false false false n l = l
+    cond-len : (x y : Bool) (n : ℕ) → n < length r → cond x (illegal MISPLACED-UNDERSCORE n sp) (cond y (illegal error n sp) (good INT n sp)) .len < length r
+    cond-len true y n l = l
+    cond-len false true n l = l
+    cond-len false false n l = l
 
 -- ---- after a 0, which is not the last character
 module _ (r t : List Char) (h : Ends r) (k : 1 < length r) where

@@ -1,15 +1,17 @@
 -- Laws of numbers at a place of a text: each rule by the byte there and the run that was read.
-use Prim.Native.Nat.{ℕ, zero, _+_, _≤_, _<_}
-use mathlib.Core.Path.{_≡_, sym, ap, _∙_}
-use mathlib.Core.Bool.{true, false, _&&_, _||_}
+use Prim.Native.Nat.{ℕ, zero, suc, _+_, _≤_, _<_}
+use Prim.Native.Char.{code}
+use mathlib.Core.Path.{_≡_, refl, sym, ap, _∙_}
+use mathlib.Core.Bool.{Bool, true, false, _&&_, _||_}
 use mathlib.Core.List.{List}
+use mathlib.Core.Logic.{⊎-elim}
 use native.Mathlib.Omega.{arith}
 use native.Mathlib.Nat.{add-zero, add-assoc}
 use lib.Dec.{leb, eqb, lit<, lit≤}
 use lib.ListN.{getD, drop}
 use lib.Seq.{drop-drop}
-use borrow.Author.Tests.{eq-eqb, ne-eqb}
-use Rattle.basics.proofs.Choice.{above-it}
+use borrow.Author.Tests.{eq-eqb, ne-eqb, eqb-true}
+use Rattle.basics.proofs.Choice.{above-it, either}
 use Rattle.utf8.specs.Chars.{chars, peek}
 use Rattle.utf8.proofs.Places.{code-next, test-next}
 use Rattle.kinds.specs.Kinds.{ILLEGAL, INT, FLOAT}
@@ -45,15 +47,25 @@ module _ (base error : ℕ) (s : Spelling) (at : ℕ) (d : Run) (next : ℕ) whe
   prefixed-bad e = rw e
 
   module _ (good : d .misplaced ≡ false) where
-    pub prefixed-none : d .len ≡ 0 → numberAt at (prefixedDigits base error s d next) ≡ record { kind = ILLEGAL; end = at + d .len; error = error; spelling = s }
-    prefixed-none e = rw (good, e)
+    pub prefixed-wrong : eqb (d .len) 0 || (leb base 8 && isDecimal next) ≡ true → numberAt at (prefixedDigits base error s d next) ≡ record { kind = ILLEGAL; end = at + d .len; error = error; spelling = s }
+    prefixed-wrong e = rw (good, e)
 
-    module _ (some : d .len ≡ 0 → ⊥) where
-      pub prefixed-on : leb base 8 && isDecimal next ≡ true → numberAt at (prefixedDigits base error s d next) ≡ record { kind = ILLEGAL; end = at + d .len; error = error; spelling = s }
-      prefixed-on e = rw (good, ne-eqb _ _ some, e)
+    pub prefixed-good : eqb (d .len) 0 || (leb base 8 && isDecimal next) ≡ false → numberAt at (prefixedDigits base error s d next) ≡ record { kind = INT; end = at + d .len; error = 0; spelling = s }
+    prefixed-good e = rw (good, e)
 
-      pub prefixed-good : leb base 8 && isDecimal next ≡ false → numberAt at (prefixedDigits base error s d next) ≡ record { kind = INT; end = at + d .len; error = 0; spelling = s }
-      prefixed-good e = rw (good, ne-eqb _ _ some, e)
+-- there is no digit where the run ends at its start
+pub no-digit : (at n : ℕ) → eqb (at + n) at ≡ eqb n 0
+no-digit at zero = eq-eqb _ _ (add-zero at)
+no-digit at (suc n) = ne-eqb (at + suc n) at (λ z. omega arith) ∙ sym (ne-eqb (suc n) 0 (λ z. omega arith))
+
+-- ---- a sign
+abbrev pub isSign : ℕ → Bool
+isSign b = eqb b (code "+") || eqb b (code "-")
+
+pub sign-ascii : (b : ℕ) → isSign b ≡ true → (0 < b) × (b < 0x80)
+sign-ascii b t =
+    ⊎-elim (λ (e : eqb b (code "+") ≡ true). let z = eqb-true b (code "+") e in (omega arith, omega arith))
+    (λ (e : eqb b (code "+") ≡ false). let z = eqb-true b (code "-") (rw e at t) in (omega arith, omega arith)) (either (eqb b (code "+")))
 
 module _ (s : List ℕ) (at : ℕ) where
   -- the tests on the next character, by the byte
@@ -65,21 +77,17 @@ module _ (s : List ℕ) (at : ℕ) where
 
   -- ---- an exponent
   module _ (sp : Spelling) where
-    signed : (x : ℕ) → getD s at 0 ≡ x → 0 < x → x < 0x80 → eqb (peek (chars (drop at s))) 43 || eqb (peek (chars (drop at s))) 45 ≡ true
+    pub exponent-signed : isSign (getD s at 0) ≡ true
         → numberAt at (exponent sp (chars (drop at s))) ≡ numberAt (at + 1) (exponentDigits sp (strictRun 10 (chars (drop (at + 1) s))))
     unfolding exponent
-    signed x e l h t = rw (t, next-place s at x e l h) (at-after at 1 _)
+    exponent-signed t =
+        let q = sign-ascii (getD s at 0) t in
+        rw (code-next s at (code "+") (lit< tt), code-next s at (code "-") (lit< tt), t, next-place s at (getD s at 0) refl (q .0) (q .1)) (at-after at 1 _)
 
-    pub exponent-plus : getD s at 0 ≡ 43 → numberAt at (exponent sp (chars (drop at s))) ≡ numberAt (at + 1) (exponentDigits sp (strictRun 10 (chars (drop (at + 1) s))))
-    exponent-plus e = signed 43 e (lit< tt) (lit< tt) (rw (next-is 43 (lit< tt) e))
-
-    pub exponent-minus : getD s at 0 ≡ 45 → numberAt at (exponent sp (chars (drop at s))) ≡ numberAt (at + 1) (exponentDigits sp (strictRun 10 (chars (drop (at + 1) s))))
-    exponent-minus e = signed 45 e (lit< tt) (lit< tt) (rw (next-not 43 (lit< tt) (λ z. omega arith), next-is 45 (lit< tt) e))
-
-    pub exponent-plain : (getD s at 0 ≡ 43 → ⊥) → (getD s at 0 ≡ 45 → ⊥)
+    pub exponent-plain : isSign (getD s at 0) ≡ false
         → numberAt at (exponent sp (chars (drop at s))) ≡ numberAt at (exponentDigits sp (strictRun 10 (chars (drop at s))))
     unfolding exponent
-    exponent-plain e f = rw (next-not 43 (lit< tt) e, next-not 45 (lit< tt) f)
+    exponent-plain t = rw (code-next s at (code "+") (lit< tt), code-next s at (code "-") (lit< tt), t)
 
   -- ---- after the digits
   module _ (kind : ℕ) where

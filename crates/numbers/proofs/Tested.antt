@@ -149,8 +149,7 @@ module _ (r : List Char) where
       let d = digitRun base false (drop n r) in
       let o = more sp n (d .len) b (run-plain base h false (drop n r)) in
       cond-ind (λ x. Read (after n x)) (d .misplaced) _ _ (λ _. (o, tt))
-      (λ _. cond-ind (λ x. Read (after n x)) (eqb (d .len) 0) _ _ (λ _. (more sp n 0 b (plain-none (drop n r)), tt))
-      (λ _. cond-ind (λ x. Read (after n x)) (leb base 8 && isDecimal (peek (drop (d .len) (drop n r)))) _ _ (λ _. (o, tt)) (λ _. (o, tt))))
+      (λ _. cond-ind (λ x. Read (after n x)) (eqb (d .len) 0 || (leb base 8 && isDecimal (peek (drop (d .len) (drop n r))))) _ _ (λ _. (o, tt)) (λ _. (o, tt)))
 
   -- ---- from the first character on, which is no point
   module _ (no-point : eqb (peek r) 46 ≡ false) where

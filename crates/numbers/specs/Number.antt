@@ -65,12 +65,11 @@ decimal r =
     cond (digitRun 10 false r .misplaced) (illegal MISPLACED-UNDERSCORE (digitRun 10 false r .len) AsRead)
     (after (digitRun 10 false r .len) (decimalRest (drop (digitRun 10 false r .len) r)))
 
--- the digits of a prefixed number, and what stands next: a binary or octal number ends before no decimal digit
+-- the digits of a prefixed number, and what stands next: there is a digit, and a binary or octal number ends before no decimal one
 abbrev pub prefixedDigits : ℕ → ℕ → Spelling → Run → ℕ → Numeral
 prefixedDigits base error s d next =
     cond (d .misplaced) (illegal MISPLACED-UNDERSCORE (d .len) s)
-    (cond (eqb (d .len) 0) (illegal error 0 s)
-    (cond (leb base 8 && isDecimal next) (illegal error (d .len) s) (good INT (d .len) s)))
+    (cond (eqb (d .len) 0 || (leb base 8 && isDecimal next)) (illegal error (d .len) s) (good INT (d .len) s))
 
 -- after a prefix
 unfoldable pub prefixed : ℕ → ℕ → Spelling → List Char → Numeral

@@ -74,10 +74,7 @@ fn scan_exponent(src: &[u8], at: usize, spelling: Spelling) -> Number
     ensures { λ r. ⌜ r ≡ numberAt at (exponent spelling (chars (drop at (now (src .entry))))) ⌝ }
 {
     let b = utf8::byte(src, at);
-    if b == b'+' {
-        return exponent_digits(src, at + 1, spelling);
-    }
-    if b == b'-' {
+    if (b == b'+') | (b == b'-') {
         return exponent_digits(src, at + 1, spelling);
     }
     exponent_digits(src, at, spelling)
@@ -150,10 +147,7 @@ fn scan_prefixed(src: &[u8], at: usize, base: u8, error: u8, spelling: Spelling)
     if d.misplaced {
         return illegal(errors::MISPLACED_UNDERSCORE, end, spelling);
     }
-    if end == at {
-        return illegal(error, end, spelling);
-    }
-    if goes_on(src, end, base) {
+    if (end == at) | goes_on(src, end, base) {
         return illegal(error, end, spelling);
     }
     good(kinds::INT, end, spelling)
