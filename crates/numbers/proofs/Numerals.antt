@@ -15,6 +15,7 @@ use Rattle.basics.proofs.Choice.{above-it, either}
 use Rattle.utf8.specs.Chars.{chars, peek}
 use Rattle.utf8.proofs.Places.{code-next, test-next}
 use Rattle.kinds.specs.Kinds.{ILLEGAL, INT, FLOAT}
+use Rattle.errors.specs.Numbers.{BAD-OCTAL, MISPLACED-UNDERSCORE, BAD-EXPONENT}
 use Rattle.digits.specs.Digit.{isDecimal}
 use Rattle.numbers.specs.declared.Spelling.{Spelling}
 use Rattle.numbers.specs.declared.Spelling.the-variants.{AsRead, OctalPrefix, LowerExponent}
@@ -27,15 +28,15 @@ at-after : (at n : ℕ) (x : Numeral) → numberAt at (after n x) ≡ numberAt (
 at-after at n x = rw (← add-assoc at n (x .len))
 
 pub digit-next : (s : List ℕ) (p : ℕ) → isDecimal (peek (chars (drop p s))) ≡ isDecimal (getD s p 0)
-digit-next s p = test-next s p isDecimal (λ c h. above-it 48 c 57 (omega arith) (omega arith))
+digit-next s p = test-next s p isDecimal (λ c h. above-it (code "0") c (code "9") (omega arith) (omega arith))
 
 -- ---- the digits of an exponent
 module _ (at : ℕ) (s : Spelling) (d : Run) where
-  pub exponent-bad : d .misplaced ≡ true → numberAt at (exponentDigits s d) ≡ record { kind = ILLEGAL; end = at + d .len; error = 4; spelling = s }
+  pub exponent-bad : d .misplaced ≡ true → numberAt at (exponentDigits s d) ≡ record { kind = ILLEGAL; end = at + d .len; error = MISPLACED-UNDERSCORE; spelling = s }
   exponent-bad e = rw e
 
   module _ (good : d .misplaced ≡ false) where
-    pub exponent-none : d .len ≡ 0 → numberAt at (exponentDigits s d) ≡ record { kind = ILLEGAL; end = at + d .len; error = 5; spelling = s }
+    pub exponent-none : d .len ≡ 0 → numberAt at (exponentDigits s d) ≡ record { kind = ILLEGAL; end = at + d .len; error = BAD-EXPONENT; spelling = s }
     exponent-none e = rw (good, e)
 
     pub exponent-good : (d .len ≡ 0 → ⊥) → numberAt at (exponentDigits s d) ≡ record { kind = FLOAT; end = at + d .len; error = 0; spelling = s }
@@ -43,7 +44,7 @@ module _ (at : ℕ) (s : Spelling) (d : Run) where
 
 -- ---- after a prefix
 module _ (base error : ℕ) (s : Spelling) (at : ℕ) (d : Run) (next : ℕ) where
-  pub prefixed-bad : d .misplaced ≡ true → numberAt at (prefixedDigits base error s d next) ≡ record { kind = ILLEGAL; end = at + d .len; error = 4; spelling = s }
+  pub prefixed-bad : d .misplaced ≡ true → numberAt at (prefixedDigits base error s d next) ≡ record { kind = ILLEGAL; end = at + d .len; error = MISPLACED-UNDERSCORE; spelling = s }
   prefixed-bad e = rw e
 
   module _ (good : d .misplaced ≡ false) where
@@ -91,22 +92,22 @@ module _ (s : List ℕ) (at : ℕ) where
 
   -- ---- after the digits
   module _ (kind : ℕ) where
-    pub finish-lower : getD s at 0 ≡ 101 → numberAt at (finish kind (chars (drop at s))) ≡ numberAt (at + 1) (exponent AsRead (chars (drop (at + 1) s)))
+    pub finish-lower : getD s at 0 ≡ code "e" → numberAt at (finish kind (chars (drop at s))) ≡ numberAt (at + 1) (exponent AsRead (chars (drop (at + 1) s)))
     unfolding finish
-    finish-lower e = rw (next-is 101 (lit< tt) e, next-place s at 101 e (lit< tt) (lit< tt)) (at-after at 1 _)
+    finish-lower e = rw (next-is (code "e") (lit< tt) e, next-place s at (code "e") e (lit< tt) (lit< tt)) (at-after at 1 _)
 
-    pub finish-upper : getD s at 0 ≡ 69 → numberAt at (finish kind (chars (drop at s))) ≡ numberAt (at + 1) (exponent LowerExponent (chars (drop (at + 1) s)))
+    pub finish-upper : getD s at 0 ≡ code "E" → numberAt at (finish kind (chars (drop at s))) ≡ numberAt (at + 1) (exponent LowerExponent (chars (drop (at + 1) s)))
     unfolding finish
     finish-upper e =
-        rw (next-not 101 (lit< tt) (λ z. omega arith), next-is 69 (lit< tt) e, next-place s at 69 e (lit< tt) (lit< tt)) (at-after at 1 _)
+        rw (next-not (code "e") (lit< tt) (λ z. omega arith), next-is (code "E") (lit< tt) e, next-place s at (code "E") e (lit< tt) (lit< tt)) (at-after at 1 _)
 
-    pub finish-end : (getD s at 0 ≡ 101 → ⊥) → (getD s at 0 ≡ 69 → ⊥) → numberAt at (finish kind (chars (drop at s))) ≡ record { kind = kind; end = at; error = 0; spelling = AsRead }
+    pub finish-end : (getD s at 0 ≡ code "e" → ⊥) → (getD s at 0 ≡ code "E" → ⊥) → numberAt at (finish kind (chars (drop at s))) ≡ record { kind = kind; end = at; error = 0; spelling = AsRead }
     unfolding finish
-    finish-end e f = rw (next-not 101 (lit< tt) e, next-not 69 (lit< tt) f, add-zero at)
+    finish-end e f = rw (next-not (code "e") (lit< tt) e, next-not (code "E") (lit< tt) f, add-zero at)
 
   -- ---- a fraction
   pub fraction-bad : strictRun 10 (chars (drop at s)) .misplaced ≡ true
-      → numberAt at (fraction (chars (drop at s))) ≡ record { kind = ILLEGAL; end = at + strictRun 10 (chars (drop at s)) .len; error = 4; spelling = AsRead }
+      → numberAt at (fraction (chars (drop at s))) ≡ record { kind = ILLEGAL; end = at + strictRun 10 (chars (drop at s)) .len; error = MISPLACED-UNDERSCORE; spelling = AsRead }
   unfolding fraction
   fraction-bad e = rw e
 
@@ -117,16 +118,16 @@ module _ (s : List ℕ) (at : ℕ) where
   fraction-good e = rw (e, strict-place 10 (lit≤ tt) s at) (at-after at _ _)
 
   -- ---- a decimal number
-  pub rest-point : getD s at 0 ≡ 46 → numberAt at (decimalRest (chars (drop at s))) ≡ numberAt (at + 1) (fraction (chars (drop (at + 1) s)))
+  pub rest-point : getD s at 0 ≡ code "." → numberAt at (decimalRest (chars (drop at s))) ≡ numberAt (at + 1) (fraction (chars (drop (at + 1) s)))
   unfolding decimalRest
-  rest-point e = rw (next-is 46 (lit< tt) e, next-place s at 46 e (lit< tt) (lit< tt)) (at-after at 1 _)
+  rest-point e = rw (next-is (code ".") (lit< tt) e, next-place s at (code ".") e (lit< tt) (lit< tt)) (at-after at 1 _)
 
-  pub rest-plain : (getD s at 0 ≡ 46 → ⊥) → numberAt at (decimalRest (chars (drop at s))) ≡ numberAt at (finish INT (chars (drop at s)))
+  pub rest-plain : (getD s at 0 ≡ code "." → ⊥) → numberAt at (decimalRest (chars (drop at s))) ≡ numberAt at (finish INT (chars (drop at s)))
   unfolding decimalRest
-  rest-plain e = rw (next-not 46 (lit< tt) e)
+  rest-plain e = rw (next-not (code ".") (lit< tt) e)
 
   pub decimal-bad : digitRun 10 false (chars (drop at s)) .misplaced ≡ true
-      → numberAt at (decimal (chars (drop at s))) ≡ record { kind = ILLEGAL; end = at + digitRun 10 false (chars (drop at s)) .len; error = 4; spelling = AsRead }
+      → numberAt at (decimal (chars (drop at s))) ≡ record { kind = ILLEGAL; end = at + digitRun 10 false (chars (drop at s)) .len; error = MISPLACED-UNDERSCORE; spelling = AsRead }
   unfolding decimal
   decimal-bad e = rw e
 
@@ -144,11 +145,11 @@ module _ (s : List ℕ) (at : ℕ) where
   prefixed-there base error sp b = rw (run-place base b s at)
 
   -- ---- a number that starts with 0
-  module _ (zero : getD s at 0 ≡ 48) where
+  module _ (zero : getD s at 0 ≡ code "0") where
     first-place : drop 1 (chars (drop at s)) ≡ chars (drop (at + 1) s)
-    first-place = next-place s at 48 zero (lit< tt) (lit< tt)
+    first-place = next-place s at (code "0") zero (lit< tt) (lit< tt)
 
-    pub bare-octal : isDecimal (getD s (at + 1) 0) ≡ true → numberAt at (bareZero (chars (drop at s))) ≡ numberAt (at + 1) (prefixed 8 2 OctalPrefix (chars (drop (at + 1) s)))
+    pub bare-octal : isDecimal (getD s (at + 1) 0) ≡ true → numberAt at (bareZero (chars (drop at s))) ≡ numberAt (at + 1) (prefixed 8 BAD-OCTAL OctalPrefix (chars (drop (at + 1) s)))
     unfolding bareZero
     bare-octal e = rw (first-place, digit-next s (at + 1), e) (at-after at 1 _)
 
@@ -162,12 +163,12 @@ module _ (s : List ℕ) (at : ℕ) where
     zero-is =
         rw (
           first-place,
-          code-next s (at + 1) 120 (lit< tt),
-          code-next s (at + 1) 88 (lit< tt),
-          code-next s (at + 1) 111 (lit< tt),
-          code-next s (at + 1) 79 (lit< tt),
-          code-next s (at + 1) 98 (lit< tt),
-          code-next s (at + 1) 66 (lit< tt),
+          code-next s (at + 1) (code "x") (lit< tt),
+          code-next s (at + 1) (code "X") (lit< tt),
+          code-next s (at + 1) (code "o") (lit< tt),
+          code-next s (at + 1) (code "O") (lit< tt),
+          code-next s (at + 1) (code "b") (lit< tt),
+          code-next s (at + 1) (code "B") (lit< tt),
         )
 
     -- two characters on
@@ -179,14 +180,14 @@ module _ (s : List ℕ) (at : ℕ) where
         rw p (at-after at 2 _)
 
   -- ---- a number but for an i
-  pub without-point : getD s at 0 ≡ 46 → numberAt at (withoutI (chars (drop at s))) ≡ numberAt (at + 1) (fraction (chars (drop (at + 1) s)))
+  pub without-point : getD s at 0 ≡ code "." → numberAt at (withoutI (chars (drop at s))) ≡ numberAt (at + 1) (fraction (chars (drop (at + 1) s)))
   unfolding withoutI
-  without-point e = rw (next-is 46 (lit< tt) e, next-place s at 46 e (lit< tt) (lit< tt)) (at-after at 1 _)
+  without-point e = rw (next-is (code ".") (lit< tt) e, next-place s at (code ".") e (lit< tt) (lit< tt)) (at-after at 1 _)
 
-  pub without-zero : getD s at 0 ≡ 48 → numberAt at (withoutI (chars (drop at s))) ≡ numberAt at (leadingZero (chars (drop at s)))
+  pub without-zero : getD s at 0 ≡ code "0" → numberAt at (withoutI (chars (drop at s))) ≡ numberAt at (leadingZero (chars (drop at s)))
   unfolding withoutI
-  without-zero e = rw (next-not 46 (lit< tt) (λ z. omega arith), next-is 48 (lit< tt) e)
+  without-zero e = rw (next-not (code ".") (lit< tt) (λ z. omega arith), next-is (code "0") (lit< tt) e)
 
-  pub without-other : (getD s at 0 ≡ 46 → ⊥) → (getD s at 0 ≡ 48 → ⊥) → numberAt at (withoutI (chars (drop at s))) ≡ numberAt at (decimal (chars (drop at s)))
+  pub without-other : (getD s at 0 ≡ code "." → ⊥) → (getD s at 0 ≡ code "0" → ⊥) → numberAt at (withoutI (chars (drop at s))) ≡ numberAt at (decimal (chars (drop at s)))
   unfolding withoutI
-  without-other e f = rw (next-not 46 (lit< tt) e, next-not 48 (lit< tt) f)
+  without-other e f = rw (next-not (code ".") (lit< tt) e, next-not (code "0") (lit< tt) f)

@@ -1,5 +1,6 @@
 -- Laws of a body that is read character by character: what was read of it and what is left make the whole.
 use Prim.Native.Nat.{ℕ, _+_, _≤_, _<_}
+use Prim.Native.Char.{code}
 use mathlib.Core.Path.{_≡_, refl, sym, ap, _∙_}
 use mathlib.Core.Bool.{Bool, true, false, _&&_}
 use mathlib.Core.List.{List, [], _∷_}
@@ -81,13 +82,13 @@ module _ (s : List ℕ) (p : ℕ) (h : p < length s) (r : List Char) where
   stop-more x l e = rw (code-at s p _ x h refl l, e)
 
   module _ (star : Bool) where
-    pub slash-last : star && eqb (getD s p 0) 47 ≡ true → toStarSlash star (charAt s p ∷ r) ≡ last
+    pub slash-last : star && eqb (getD s p 0) (code "/") ≡ true → toStarSlash star (charAt s p ∷ r) ≡ last
     unfolding toStarSlash
-    slash-last e = rw (code-at s p _ 47 h refl (lit< tt), e)
+    slash-last e = rw (code-at s p _ (code "/") h refl (lit< tt), e)
 
-    pub slash-more : star && eqb (getD s p 0) 47 ≡ false → toStarSlash star (charAt s p ∷ r) ≡ more (toStarSlash (eqb (getD s p 0) 42) r)
+    pub slash-more : star && eqb (getD s p 0) (code "/") ≡ false → toStarSlash star (charAt s p ∷ r) ≡ more (toStarSlash (eqb (getD s p 0) (code "*")) r)
     unfolding toStarSlash
-    slash-more e = rw (code-at s p _ 47 h refl (lit< tt), e, code-at s p _ 42 h refl (lit< tt))
+    slash-more e = rw (code-at s p _ (code "/") h refl (lit< tt), e, code-at s p _ (code "*") h refl (lit< tt))
 
 -- ---- one character more
 counted-empty : (at : ℕ) → Counted (emptyAt at)
@@ -104,7 +105,7 @@ counted-grown b c t w k =
     }
 
 module _ (s : List ℕ) (b : Body) (h : b .end < length s) (t : Bool) where
-  pub grown-ascii : getD s (b .end) 0 < 0x80 → (x y : ℕ) → x ≡ one (eqb (getD s (b .end) 0) 10) → y ≡ one (eqb (getD s (b .end) 0) 13)
+  pub grown-ascii : getD s (b .end) 0 < 0x80 → (x y : ℕ) → x ≡ one (eqb (getD s (b .end) 0) (code "\n")) → y ≡ one (eqb (getD s (b .end) 0) (code "\r"))
       → record { end = b .end + 1; chars = b .chars + 1; closed = t; lfs = b .lfs + x; crs = b .crs + y; strays = b .strays } ≡ grown b (charAt s (b .end)) t
   unfolding grown
   grown-ascii l x y e k =
@@ -116,10 +117,10 @@ module _ (s : List ℕ) (b : Body) (h : b .end < length s) (t : Bool) where
   grown-wide l c e x k =
       rw (
         ← e,
-        code-at s (b .end) c 10 h e (lit< tt),
-        code-at s (b .end) c 13 h e (lit< tt),
-        ne-eqb (getD s (b .end) 0) 10 (λ z. omega arith),
-        ne-eqb (getD s (b .end) 0) 13 (λ z. omega arith),
+        code-at s (b .end) c (code "\n") h e (lit< tt),
+        code-at s (b .end) c (code "\r") h e (lit< tt),
+        ne-eqb (getD s (b .end) 0) (code "\n") (λ z. omega arith),
+        ne-eqb (getD s (b .end) 0) (code "\r") (λ z. omega arith),
         k,
       )
       (same-body refl refl refl (sym (add-zero _)) (sym (add-zero _)) refl)

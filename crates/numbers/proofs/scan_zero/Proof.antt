@@ -1,10 +1,12 @@
 -- `numbers::scan_zero` meets its contract: each arm is a case of the definition.
 use Prim.Native.Nat.{_+_}
+use Prim.Native.Char.{code}
 use mathlib.Core.Path.{sym, ap, _∙_}
 use native.Mathlib.Omega.{arith}
 use lib.Dec.{lit<}
 use borrow.Author.Tests.{ne-eqb}
 use Rattle.basics.proofs.Lists.{reach}
+use Rattle.errors.specs.Numbers.{BAD-BINARY, BAD-OCTAL, BAD-HEXADECIMAL}
 use Rattle.numbers.specs.declared.Spelling.the-variants.{AsRead, LowerPrefix}
 use Rattle.numbers.specs.Number.{numberAt}
 use Rattle.numbers.proofs.Numerals.{zero-is, zero-prefix}
@@ -62,42 +64,42 @@ returns c =
     let a = c .before .before .before .before .args in
     let y = sym (c .before .before .byte .ensures) ∙ c .before .match .keys1 in
     c .scan-prefixed .ensures
-    ∙ sym (ap (numberAt (a .at)) (zero-is (a .src .now) (a .at) (c .before .before .before .before .pre) ∙ rw y) ∙ zero-prefix (a .src .now) (a .at) (c .before .before .before .before .pre) 120 y (lit< tt) (lit< tt) 16 3 AsRead)
+    ∙ sym (ap (numberAt (a .at)) (zero-is (a .src .now) (a .at) (c .before .before .before .before .pre) ∙ rw y) ∙ zero-prefix (a .src .now) (a .at) (c .before .before .before .before .pre) (code "x") y (lit< tt) (lit< tt) 16 BAD-HEXADECIMAL AsRead)
 
 returns-2 : tie.Need-returns-2
 returns-2 c =
     let a = c .before .before .before .before .args in
     let y = sym (c .before .before .byte .ensures) ∙ c .before .match .keys2 in
     c .scan-prefixed2 .ensures
-    ∙ sym (ap (numberAt (a .at)) (zero-is (a .src .now) (a .at) (c .before .before .before .before .pre) ∙ rw y) ∙ zero-prefix (a .src .now) (a .at) (c .before .before .before .before .pre) 88 y (lit< tt) (lit< tt) 16 3 LowerPrefix)
+    ∙ sym (ap (numberAt (a .at)) (zero-is (a .src .now) (a .at) (c .before .before .before .before .pre) ∙ rw y) ∙ zero-prefix (a .src .now) (a .at) (c .before .before .before .before .pre) (code "X") y (lit< tt) (lit< tt) 16 BAD-HEXADECIMAL LowerPrefix)
 
 returns-3 : tie.Need-returns-3
 returns-3 c =
     let a = c .before .before .before .before .args in
     let y = sym (c .before .before .byte .ensures) ∙ c .before .match .keys3 in
     c .scan-prefixed3 .ensures
-    ∙ sym (ap (numberAt (a .at)) (zero-is (a .src .now) (a .at) (c .before .before .before .before .pre) ∙ rw y) ∙ zero-prefix (a .src .now) (a .at) (c .before .before .before .before .pre) 111 y (lit< tt) (lit< tt) 8 2 AsRead)
+    ∙ sym (ap (numberAt (a .at)) (zero-is (a .src .now) (a .at) (c .before .before .before .before .pre) ∙ rw y) ∙ zero-prefix (a .src .now) (a .at) (c .before .before .before .before .pre) (code "o") y (lit< tt) (lit< tt) 8 BAD-OCTAL AsRead)
 
 returns-4 : tie.Need-returns-4
 returns-4 c =
     let a = c .before .before .before .before .args in
     let y = sym (c .before .before .byte .ensures) ∙ c .before .match .keys4 in
     c .scan-prefixed4 .ensures
-    ∙ sym (ap (numberAt (a .at)) (zero-is (a .src .now) (a .at) (c .before .before .before .before .pre) ∙ rw y) ∙ zero-prefix (a .src .now) (a .at) (c .before .before .before .before .pre) 79 y (lit< tt) (lit< tt) 8 2 LowerPrefix)
+    ∙ sym (ap (numberAt (a .at)) (zero-is (a .src .now) (a .at) (c .before .before .before .before .pre) ∙ rw y) ∙ zero-prefix (a .src .now) (a .at) (c .before .before .before .before .pre) (code "O") y (lit< tt) (lit< tt) 8 BAD-OCTAL LowerPrefix)
 
 returns-5 : tie.Need-returns-5
 returns-5 c =
     let a = c .before .before .before .before .args in
     let y = sym (c .before .before .byte .ensures) ∙ c .before .match .keys5 in
     c .scan-prefixed5 .ensures
-    ∙ sym (ap (numberAt (a .at)) (zero-is (a .src .now) (a .at) (c .before .before .before .before .pre) ∙ rw y) ∙ zero-prefix (a .src .now) (a .at) (c .before .before .before .before .pre) 98 y (lit< tt) (lit< tt) 2 1 AsRead)
+    ∙ sym (ap (numberAt (a .at)) (zero-is (a .src .now) (a .at) (c .before .before .before .before .pre) ∙ rw y) ∙ zero-prefix (a .src .now) (a .at) (c .before .before .before .before .pre) (code "b") y (lit< tt) (lit< tt) 2 BAD-BINARY AsRead)
 
 returns-6 : tie.Need-returns-6
 returns-6 c =
     let a = c .before .before .before .before .args in
     let y = sym (c .before .before .byte .ensures) ∙ c .before .match .keys6 in
     c .scan-prefixed6 .ensures
-    ∙ sym (ap (numberAt (a .at)) (zero-is (a .src .now) (a .at) (c .before .before .before .before .pre) ∙ rw y) ∙ zero-prefix (a .src .now) (a .at) (c .before .before .before .before .pre) 66 y (lit< tt) (lit< tt) 2 1 LowerPrefix)
+    ∙ sym (ap (numberAt (a .at)) (zero-is (a .src .now) (a .at) (c .before .before .before .before .pre) ∙ rw y) ∙ zero-prefix (a .src .now) (a .at) (c .before .before .before .before .pre) (code "B") y (lit< tt) (lit< tt) 2 BAD-BINARY LowerPrefix)
 
 returns-7 : tie.Need-returns-7
 returns-7 c =

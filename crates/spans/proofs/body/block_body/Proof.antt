@@ -1,5 +1,6 @@
 -- `spans::body::block_body` meets its contract. The loop's invariant: what was read and what is left make the whole.
 use Prim.Native.Nat.{_-_}
+use Prim.Native.Char.{code}
 use mathlib.Core.Path.{refl, sym, _∙_}
 use mathlib.Core.Bool.{false}
 use native.Mathlib.Omega.{arith}
@@ -34,7 +35,7 @@ is-block-requires c κs = tt
 
 -- the block that was found lies within the text
 found : (c : tie.Then3 Inv-loop μ-loop)
-    → PlainRun 42 (c .before .before .before .before .before .before .before .before .args .src .now) (c .before .before .before .before .before .loop .body .end) 16
+    → PlainRun (code "*") (c .before .before .before .before .before .before .before .before .args .src .now) (c .before .before .before .before .before .loop .body .end) 16
 found c = block-true _ _ _ (sym (c .before .is-block .ensures) ∙ c .if3 .taken)
 
 add-body : tie.Need-add-body Inv-loop μ-loop
@@ -51,7 +52,7 @@ loop-again c =
     let l = c .before .before .before .before .before .before in
     let a = l .before .before .before .args in
     let s = a .src .now in
-    part-plain _ (toStarSlash (l .loop .star)) 42 s (slash-on (l .loop .star) (not-true _ (and-split _ _ (c .before .before .before .if2 .taken) .0)) s)
+    part-plain _ (toStarSlash (l .loop .star)) (code "*") s (slash-on (l .loop .star) (not-true _ (and-split _ _ (c .before .before .before .if2 .taken) .0)) s)
     16 (l .loop .body) (found (c .before)) (l .loop .inv)
 
 add-tried : tie.Need-add-tried Inv-loop μ-loop
@@ -81,7 +82,7 @@ loop-again-2 c =
     let l = c .before .before .before .before .before .before in
     let more = c .before .before .before .before .if1 .taken in
     part-next _ _ _ _ (l .loop .inv) more _ _ (c .before .grow .ensures) (c .if4 .left)
-    (toStarSlash (eqb (getD (l .before .before .before .args .src .now) (l .loop .body .end) 0) 42))
+    (toStarSlash (eqb (getD (l .before .before .before .args .src .now) (l .loop .body .end) 0) (code "*")))
     (λ r. slash-more _ _ more r _ (c .if4 .left))
 
 returns-2 : tie.Need-returns-2 Inv-loop μ-loop
