@@ -1,18 +1,17 @@
 -- Laws of what a body holds: a text behind does not change it, what its last character adds, and that it is no more than its bytes.
 use Prim.Native.Nat.{ℕ, zero, suc, _+_, _-_, _≤_, _<_}
 use Prim.Native.Char.{code}
-use mathlib.Core.Path.{_≡_, refl, sym, ap, _∙_}
-use mathlib.Core.Bool.{Bool, true, and-false}
-use mathlib.Core.List.{List, [], _∷_, _++_}
+use mathlib.Core.Path.{_≡_, sym, ap, _∙_}
+use mathlib.Core.Bool.{true, and-false}
+use mathlib.Core.List.{List, _∷_, _++_}
 use native.Mathlib.Omega.{arith}
-use native.Mathlib.Decide.{decLt}
-use native.Mathlib.Nat.{add-zero, zero-add, add-assoc}
-use lib.Dec.{eqb, lit≤}
+use native.Mathlib.Nat.{add-zero}
+use lib.Dec.{eqb}
 use lib.ListN.{length, getD, take, drop}
-use lib.Seq.{take-suc, take-append-le, drop-cons}
+use lib.Seq.{take-append-le, drop-cons}
 use borrow.Author.Tests.{ne-eqb}
 use Rattle.utf8.specs.declared.Char.{Char}
-use Rattle.utf8.specs.Chars.{ended, firstChar, chars, widths, isStray}
+use Rattle.utf8.specs.Chars.{ended, chars, widths, isStray}
 use Rattle.utf8.specs.Count.{isCr, count}
 use Rattle.utf8.proofs.Count.{count-last, widths-last}
 use Rattle.utf8.proofs.Places.{place-chars, ascii-widths}

@@ -1,6 +1,6 @@
 -- Whether a general comment ends its line: "holds an LF, is never closed, or has only spaces, tabs and CRs between it and an LF or the end".
 use Prim.Native.Char.{code}
-use mathlib.Core.Bool.{Bool, true, false, cond, _&&_}
+use mathlib.Core.Bool.{Bool, true, cond, _&&_}
 use mathlib.Core.List.{List, [], _∷_}
 use lib.Dec.{eqb}
 use Rattle.utf8.specs.declared.Char.{Char}

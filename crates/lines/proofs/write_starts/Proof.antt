@@ -1,5 +1,5 @@
 -- `lines::write_starts` meets its contract. The loop's invariant: what is left of the characters gives the starts still to be written.
-use Prim.Native.Nat.{_+_, _-_, _<_}
+use Prim.Native.Nat.{_-_, _<_}
 use mathlib.Core.Path.{_≡_, refl, sym, ap, _∙_}
 use native.Mathlib.Omega.{arith}
 use borrow.Author.Needs.{needs}

@@ -1,7 +1,7 @@
 -- `numbers::scan_prefixed` meets its contract: by what the run says, and the byte after it.
 use Prim.Native.Nat.{ℕ, _+_}
 use mathlib.Core.Path.{_≡_, sym, ap, ap₂, _∙_}
-use mathlib.Core.Bool.{Bool, false, _&&_, _||_}
+use mathlib.Core.Bool.{false, _&&_, _||_}
 use lib.Dec.{leb, eqb}
 use lib.ListN.{drop}
 use Rattle.utf8.specs.Chars.{chars, peek}

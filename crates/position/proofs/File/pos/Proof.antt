@@ -5,7 +5,7 @@ use mathlib.Core.Bool.{true}
 use native.Mathlib.Omega.{arith}
 use borrow.Author.Needs.{needs}
 use borrow.Author.Tests.{not-true, not-false, leb-true}
-use Rattle.position.specs.Place.{inRange}
+use Rattle.position.specs.Place.{maxPosition, inRange}
 use Rattle.position.proofs.Queries.{pos-unplaced, pos-outside, pos-gave}
 use Rattle.position.proofs.File.pos.Statement.{statement}
 use Rattle.position.proofs.File.pos.Tie as tie
@@ -27,7 +27,7 @@ add-position : tie.Need-add-position
 unfolding inRange
 add-position c =
     let f = c .before .before .before .before .before .args .self in
-    omega (arith, leb-true (f .base + f .size) 4294967295 (ok (c .before .before .before)))
+    omega (arith, leb-true (f .base + f .size) maxPosition (ok (c .before .before .before)))
 
 returns-3 : tie.Need-returns-3
 returns-3 c = sym (pos-gave _ _ (ok (c .before .before .before)) (c .before .if2 .left))
