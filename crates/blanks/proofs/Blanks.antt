@@ -1,5 +1,6 @@
 -- Laws of blanks: one of them at a place, by the byte there.
 use Prim.Native.Nat.{ℕ, zero, suc, _+_, _/_, _^_, _≤_, _<_}
+use Prim.Native.Char.{code}
 use mathlib.Core.Path.{_≡_, refl, sym, ap, _∙_}
 use mathlib.Core.Bool.{Bool, true, false, cond, not, _&&_, _||_, Bool·beq, true≢false, false≢true}
 use mathlib.Core.List.{List}
@@ -24,15 +25,15 @@ abbrev pub joined : ℕ → ℕ → ℕ → Skip → Skipped
 joined p k l x = record { end = p + x .len; lfs = k + x .lfs; line = cond (ltb 0 (x .line)) (p + x .line) l }
 
 -- no character above a space is blank
-pub blank-above : (mark : Bool) (c : ℕ) → 32 < c → isBlank mark c ≡ false
+pub blank-above : (mark : Bool) (c : ℕ) → code " " < c → isBlank mark c ≡ false
 unfolding isBlank isSpace
 blank-above mark c h =
-    rw (ne-eqb c 32 (λ e. omega arith), ne-eqb c 9 (λ e. omega arith), ne-eqb c 13 (λ e. omega arith), ne-eqb c 10 (λ e. omega arith))
+    rw (ne-eqb c (code " ") (λ e. omega arith), ne-eqb c (code "\t") (λ e. omega arith), ne-eqb c (code "\r") (λ e. omega arith), ne-eqb c (code "\n") (λ e. omega arith))
 
 -- none above 127 is a space or a blank
 pub space-high : (c : ℕ) → 0x80 ≤ c → isSpace c ≡ false
 unfolding isSpace
-space-high c h = rw (ne-eqb c 32 (λ e. omega arith), ne-eqb c 9 (λ e. omega arith), ne-eqb c 13 (λ e. omega arith))
+space-high c h = rw (ne-eqb c (code " ") (λ e. omega arith), ne-eqb c (code "\t") (λ e. omega arith), ne-eqb c (code "\r") (λ e. omega arith))
 
 pub blank-high : (mark : Bool) (c : ℕ) → 0x80 ≤ c → isBlank mark c ≡ false
 blank-high mark c h = blank-above mark c (omega arith)
@@ -43,29 +44,29 @@ unfolding isBlank isSpace
 blank-pos mark zero e = absurd (true≢false (sym e))
 blank-pos mark (suc b) e = omega arith
 
-tab-blank : (mark : Bool) → isBlank mark 9 ≡ true
+tab-blank : (mark : Bool) → isBlank mark (code "\t") ≡ true
 unfolding isBlank isSpace
 tab-blank mark = refl
 
-pub space-blank : (mark : Bool) → isBlank mark 32 ≡ true
+pub space-blank : (mark : Bool) → isBlank mark (code " ") ≡ true
 unfolding isBlank isSpace
 space-blank mark = refl
 
-pub feed-blank : isBlank false 10 ≡ true
+pub feed-blank : isBlank false (code "\n") ≡ true
 unfolding isBlank isSpace
 feed-blank = refl
 
-feed-marked : isBlank true 10 ≡ false
+feed-marked : isBlank true (code "\n") ≡ false
 unfolding isBlank isSpace
 feed-marked = refl
 
 -- a byte that stops at once: one above a space, or a line feed under the mark
-pub stop-test : (mark : Bool) (b : ℕ) → ltb 32 b || (eqb b 10 && mark) ≡ true → isBlank mark b ≡ false
-stop-test mark b e = go (ltb 32 b) (eqb b 10) refl refl mark e
+pub stop-test : (mark : Bool) (b : ℕ) → ltb (code " ") b || (eqb b (code "\n") && mark) ≡ true → isBlank mark b ≡ false
+stop-test mark b e = go (ltb (code " ") b) (eqb b (code "\n")) refl refl mark e
   where
-    go : (t u : Bool) → ltb 32 b ≡ t → eqb b 10 ≡ u → (m : Bool) → t || (u && m) ≡ true → isBlank m b ≡ false
-    go true u f g m e = blank-above m b (ltb-true 32 b f)
-    go false true f g true e = rw (eqb-true b 10 g) feed-marked
+    go : (t u : Bool) → ltb (code " ") b ≡ t → eqb b (code "\n") ≡ u → (m : Bool) → t || (u && m) ≡ true → isBlank m b ≡ false
+    go true u f g m e = blank-above m b (ltb-true (code " ") b f)
+    go false true f g true e = rw (eqb-true b (code "\n") g) feed-marked
     go false true f g false e = absurd (false≢true e)
     go false false f g m e = absurd (false≢true e)
 
@@ -95,16 +96,16 @@ skipped-is : {e e′ k k′ l l′ : ℕ} → e ≡ e′ → k ≡ k′ → l �
 skipped-is a b c = cc
 
 -- a space before
-joined-space : (p k l c : ℕ) (x : Skip) → (c ≡ 10 → ⊥) → joined p k l (before c x) ≡ joined (p + 1) k l x
-joined-space p k l c x n = rw (ne-eqb c 10 n) (skipped-is (omega arith) refl (go (x .line)))
+joined-space : (p k l c : ℕ) (x : Skip) → (c ≡ code "\n" → ⊥) → joined p k l (before c x) ≡ joined (p + 1) k l x
+joined-space p k l c x n = rw (ne-eqb c (code "\n") n) (skipped-is (omega arith) refl (go (x .line)))
   where
     go : (y : ℕ) → cond (ltb 0 (cond (ltb 0 y) (suc y) 0)) (p + cond (ltb 0 y) (suc y) 0) l ≡ cond (ltb 0 y) (p + 1 + y) l
     go zero = refl
     go (suc y) = rw (lt-ltb 0 (suc y) (omega arith), lt-ltb 0 (suc (suc y)) (omega arith)) (omega arith)
 
 -- a line feed before
-joined-feed : (p k l c : ℕ) (x : Skip) → c ≡ 10 → joined p k l (before c x) ≡ joined (p + 1) (k + 1) (p + 1) x
-joined-feed p k l c x e = rw (eq-eqb c 10 e) (skipped-is (omega arith) (omega arith) (go (x .line)))
+joined-feed : (p k l c : ℕ) (x : Skip) → c ≡ code "\n" → joined p k l (before c x) ≡ joined (p + 1) (k + 1) (p + 1) x
+joined-feed p k l c x e = rw (eq-eqb c (code "\n") e) (skipped-is (omega arith) (omega arith) (go (x .line)))
   where
     go : (y : ℕ) → cond (ltb 0 (cond (ltb 0 y) (suc y) 1)) (p + cond (ltb 0 y) (suc y) 1) l ≡ cond (ltb 0 y) (p + 1 + y) (p + 1)
     go zero = refl
@@ -143,17 +144,17 @@ module _ (mark : Bool) (s : List ℕ) where
       pub step-none : isBlank mark (getD s p 0) ≡ false → joined p k l (from p) ≡ record { end = p; lfs = k; line = l }
       step-none e = elim (decLt p (length s)) [ yes h ↦ ap (joined p k l) (skip-none h e) ∙ joined-stop p k l | no h ↦ step-end (omega arith) ]
 
-      pub step-space : isBlank mark (getD s p 0) ≡ true → (getD s p 0 ≡ 10 → ⊥) → joined p k l (from p) ≡ joined (p + 1) k l (from (p + 1))
+      pub step-space : isBlank mark (getD s p 0) ≡ true → (getD s p 0 ≡ code "\n" → ⊥) → joined p k l (from p) ≡ joined (p + 1) k l (from (p + 1))
       step-space e n = ap (joined p k l) (skip-one e) ∙ joined-space p k l (getD s p 0) (from (p + 1)) n
 
-      pub step-feed : isBlank mark (getD s p 0) ≡ true → getD s p 0 ≡ 10 → joined p k l (from p) ≡ joined (p + 1) (k + 1) (p + 1) (from (p + 1))
+      pub step-feed : isBlank mark (getD s p 0) ≡ true → getD s p 0 ≡ code "\n" → joined p k l (from p) ≡ joined (p + 1) (k + 1) (p + 1) (from (p + 1))
       step-feed e f = ap (joined p k l) (skip-one e) ∙ joined-feed p k l (getD s p 0) (from (p + 1)) f
 
   -- n tabs from a place on
-  pub step-tabs : (n p k l : ℕ) → ((i : ℕ) → i < n → getD s (p + i) 0 ≡ 9) → joined p k l (from p) ≡ joined (p + n) k l (from (p + n))
+  pub step-tabs : (n p k l : ℕ) → ((i : ℕ) → i < n → getD s (p + i) 0 ≡ code "\t") → joined p k l (from p) ≡ joined (p + n) k l (from (p + n))
   step-tabs zero p k l f = rw (add-zero p)
   step-tabs (suc n) p k l f =
-      let first : getD s p 0 ≡ 9 = rw (add-zero p) at (f 0 (omega arith)) in
+      let first : getD s p 0 ≡ code "\t" = rw (add-zero p) at (f 0 (omega arith)) in
       let place : p + 1 + n ≡ p + suc n = omega arith in
-      let rest : (i : ℕ) → i < n → getD s (p + 1 + i) 0 ≡ 9 = λ i h. let e : p + suc i ≡ p + 1 + i = omega arith in rw e at (f (suc i) (omega arith)) in
+      let rest : (i : ℕ) → i < n → getD s (p + 1 + i) 0 ≡ code "\t" = λ i h. let e : p + suc i ≡ p + 1 + i = omega arith in rw e at (f (suc i) (omega arith)) in
       step-space p k l (rw first (tab-blank mark)) (λ e. omega (arith, first)) ∙ rw place at (step-tabs n (p + 1) k l rest)

@@ -1,5 +1,6 @@
 -- Blanks: "Space, tab, CR, and LF unless "now" is set, are skipped." The mark is what 01 calls "now".
 use Prim.Native.Nat.{ℕ, suc, _+_}
+use Prim.Native.Char.{code}
 use mathlib.Core.Bool.{Bool, cond, not, _&&_, _||_}
 use mathlib.Core.List.{List, [], _∷_}
 use lib.Dec.{ltb, eqb}
@@ -8,10 +9,10 @@ use Rattle.blanks.specs.declared.Skipped.{Skipped}
 
 -- space, tab, CR
 unfoldable pub isSpace : ℕ → Bool
-isSpace c = eqb c 32 || eqb c 9 || eqb c 13
+isSpace c = eqb c (code " ") || eqb c (code "\t") || eqb c (code "\r")
 
 unfoldable pub isBlank : Bool → ℕ → Bool
-isBlank mark c = isSpace c || (eqb c 10 && not mark)
+isBlank mark c = isSpace c || (eqb c (code "\n") && not mark)
 
 -- how many characters are skipped, how many of them are line feeds, and how many stand up to the last line feed
 pub record Skip : Type 0 where
@@ -27,8 +28,8 @@ abbrev pub before : ℕ → Skip → Skip
 before c x =
     record {
       len = suc (x .len);
-      lfs = cond (eqb c 10) (suc (x .lfs)) (x .lfs);
-      line = cond (ltb 0 (x .line)) (suc (x .line)) (cond (eqb c 10) 1 0);
+      lfs = cond (eqb c (code "\n")) (suc (x .lfs)) (x .lfs);
+      line = cond (ltb 0 (x .line)) (suc (x .line)) (cond (eqb c (code "\n")) 1 0);
     }
 
 unfoldable pub skip : Bool → List Char → Skip

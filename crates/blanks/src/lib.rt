@@ -16,16 +16,16 @@ pub struct Skipped {
 pub fn is_space(b: u8) -> bool
     ensures { λ r. ⌜ r ≡ isSpace b ⌝ }
 {
-    if b == 32 {
+    if b == b' ' {
         return true;
     }
-    if b == 9 {
+    if b == b'\t' {
         return true;
     }
-    b == 13
+    b == b'\r'
 }
 
-// Skips blanks byte by byte. Which bytes up to a space are blanks is told by the bits of a number.
+// Skips blanks byte by byte. Which bytes up to a space are blanks is told by the bits of a number: 9 and 13 (tab, CR), 32 (space), and 10 (LF).
 fn skip_bytes(src: &[u8], at: usize, mark: bool) -> Skipped
     ensures { λ r. ⌜ r ≡ skippedAt at (skip mark (chars (drop at (now (src .entry))))) ⌝ }
 {
@@ -35,14 +35,14 @@ fn skip_bytes(src: &[u8], at: usize, mark: bool) -> Skipped
     let mut line = at;
     while p < src.len() {
         let b = src[p];
-        if b > 32 {
+        if b > b' ' {
             return Skipped { end: p, lfs, line };
         }
         if (blanks >> b) & 1 == 0 {
             return Skipped { end: p, lfs, line };
         }
         p += 1;
-        if b == 10 {
+        if b == b'\n' {
             lfs += 1;
             line = p;
         }
@@ -54,6 +54,7 @@ fn skip_bytes(src: &[u8], at: usize, mark: bool) -> Skipped
 fn tabs(src: &[u8], at: usize) -> usize
     ensures { λ r. ⌜ TabsAt (now (src .entry)) at r ⌝ }
 {
+    // 0x09 is b'\t'
     u64::trailing_zeros(swar::eight(src, at) ^ 0x0909_0909_0909_0909) as usize / 8
 }
 
@@ -61,10 +62,10 @@ fn tabs(src: &[u8], at: usize) -> usize
 fn skip_line(src: &[u8], at: usize, mark: bool) -> Skipped
     ensures { λ r. ⌜ r ≡ skippedAt at (skip mark (chars (drop at (now (src .entry))))) ⌝ }
 {
-    if (utf8::byte(src, at) == 10) & !mark {
+    if (utf8::byte(src, at) == b'\n') & !mark {
         let line = at + 1;
         let end = line + tabs(src, line);
-        if utf8::byte(src, end) > 32 {
+        if utf8::byte(src, end) > b' ' {
             return Skipped { end, lfs: 1, line };
         }
     }
@@ -75,13 +76,13 @@ fn skip_line(src: &[u8], at: usize, mark: bool) -> Skipped
 pub fn skip_blanks(src: &[u8], at: usize, mark: bool) -> Skipped
     ensures { λ r. ⌜ r ≡ skippedAt at (skip mark (chars (drop at (now (src .entry))))) ⌝ }
 {
-    let p = if utf8::byte(src, at) == 32 {
+    let p = if utf8::byte(src, at) == b' ' {
         at + 1
     } else {
         at
     };
     let b = utf8::byte(src, p);
-    if (b > 32) | ((b == 10) & mark) {
+    if (b > b' ') | ((b == b'\n') & mark) {
         return Skipped {
             end: p,
             lfs: 0,

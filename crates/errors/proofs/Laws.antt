@@ -17,7 +17,7 @@ use Rattle.basics.proofs.Lists.{at-append, at-end, at-past}
 use Rattle.refusal.specs.Outcome.{refused, gave}
 use Rattle.refusal.proofs.Outcomes.{refused-gave}
 use Rattle.errors.specs.declared.layout.Error.{Error}
-use Rattle.errors.specs.Layout.{width, numbers, errorAt}
+use Rattle.errors.specs.Layout.{width, numbers, recordAt}
 use Rattle.errors.specs.Errors.{roomOf, errorsOf, After, addTo, getOf}
 use Rattle.errors.proofs.Records.{error-written, error-kept}
 
@@ -36,7 +36,7 @@ errors-take m (suc n) l h =
     ⊎-elim
     (λ (e : leb m n ≡ true).
     let low : m ≤ n = leb-true m n e in
-    rw (take-append-le m (errorsOf n l) (errorAt l (n * width) ∷ []) (rw errors-length low)) (errors-take m n l low))
+    rw (take-append-le m (errorsOf n l) (recordAt l (n * width) ∷ []) (rw errors-length low)) (errors-take m n l low))
     (λ (e : leb m n ≡ false).
     let z : m ≡ suc n = omega (arith, leb-false m n e) in
     rw z (take-all (suc n) (errorsOf (suc n) l) (omega (arith, errors-length (suc n) l))))
@@ -53,18 +53,18 @@ errors-kept (suc n) l at vs h = rw (errors-kept n l at vs (omega arith), error-k
 pub errors-past : (n : ℕ) (l : List ℕ) (i : ℕ) → n ≤ i → getElem? (errorsOf n l) i ≡ none
 errors-past n l i h = at-past (errorsOf n l) i (rw errors-length h)
 
-last-error : (n : ℕ) (l : List ℕ) → getElem? (errorsOf (suc n) l) n ≡ some (errorAt l (n * width))
+last-error : (n : ℕ) (l : List ℕ) → getElem? (errorsOf (suc n) l) n ≡ some (recordAt l (n * width))
 unfolding errorsOf
-last-error n l = rw errors-length at (at-end (errorsOf n l) (errorAt l (n * width)))
+last-error n l = rw errors-length at (at-end (errorsOf n l) (recordAt l (n * width)))
 
-pub errors-at : (n : ℕ) (l : List ℕ) (i : ℕ) → i < n → getElem? (errorsOf n l) i ≡ some (errorAt l (i * width))
+pub errors-at : (n : ℕ) (l : List ℕ) (i : ℕ) → i < n → getElem? (errorsOf n l) i ≡ some (recordAt l (i * width))
 unfolding errorsOf
 errors-at zero l i h = absurd (not-suc-le-zero h)
 errors-at (suc n) l i h =
     ⊎-elim
     (λ (e : ltb i n ≡ true).
     let low : i < n = ltb-true i n e in
-    rw (at-append (errorsOf n l) (errorAt l (n * width) ∷ []) i (rw errors-length low)) (errors-at n l i low))
+    rw (at-append (errorsOf n l) (recordAt l (n * width) ∷ []) i (rw errors-length low)) (errors-at n l i low))
     (λ (e : ltb i n ≡ false).
     let z : i ≡ n = omega (arith, ltb-false i n e) in
     rw z (last-error n l))
@@ -110,7 +110,7 @@ module _ (l : List ℕ) (n i : ℕ) where
   unfolding getOf
   get-nothing h g = rw (le-leb _ _ h, errors-past n l i g)
 
-  pub get-found : n ≤ roomOf l → i < n → getOf l n i ≡ gave (some (errorAt l (i * width)))
+  pub get-found : n ≤ roomOf l → i < n → getOf l n i ≡ gave (some (recordAt l (i * width)))
   unfolding getOf
   get-found h g = rw (le-leb _ _ h, errors-at n l i g)
 

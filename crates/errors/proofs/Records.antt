@@ -7,7 +7,7 @@ use native.Mathlib.Omega.{arith}
 use lib.ListN.{length, set}
 use lib.Seq.{sets}
 use Rattle.errors.specs.declared.layout.Error.{Error}
-use Rattle.errors.specs.Layout.{width, numbers, errorAt}
+use Rattle.errors.specs.Layout.{width, numbers, recordAt}
 use Rattle.basics.proofs.Sets.{getD-sets-before, getD-sets-in}
 
 -- the numbers, written one by one
@@ -19,8 +19,8 @@ sets-numbers l at e =
     let e₃ : at + 3 ≡ suc (suc (suc at)) = omega arith in
     rw (e₁, e₂, e₃)
 
-pub error-written : (l : List ℕ) (at : ℕ) (e : Error) → at + width ≤ length l → errorAt (sets l at (numbers e)) at ≡ e
-unfolding numbers errorAt
+pub error-written : (l : List ℕ) (at : ℕ) (e : Error) → at + width ≤ length l → recordAt (sets l at (numbers e)) at ≡ e
+unfolding numbers recordAt
 error-written l at e h =
     let vs = e .offset ∷ e .line ∷ e .column ∷ e .number ∷ [] in
     rw (
@@ -30,8 +30,8 @@ error-written l at e h =
       getD-sets-in l at vs 3 0 h (omega arith),
     )
 
-pub error-kept : (l : List ℕ) (at : ℕ) (vs : List ℕ) (i : ℕ) → i + width ≤ at → errorAt (sets l at vs) i ≡ errorAt l i
-unfolding errorAt
+pub error-kept : (l : List ℕ) (at : ℕ) (vs : List ℕ) (i : ℕ) → i + width ≤ at → recordAt (sets l at vs) i ≡ recordAt l i
+unfolding recordAt
 error-kept l at vs i h =
     rw (
       getD-sets-before l at vs i 0 (omega arith),

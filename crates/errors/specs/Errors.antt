@@ -9,7 +9,7 @@ use lib.Seq.{sets}
 use Rattle.refusal.specs.Outcome.{Outcome, refused, gave}
 use Rattle.refusal.specs.Refusals.{DOES-NOT-FIT, LIST-FULL}
 use Rattle.errors.specs.declared.layout.Error.{Error}
-use Rattle.errors.specs.Layout.{width, numbers, errorAt}
+use Rattle.errors.specs.Layout.{width, numbers, recordAt}
 
 -- how many records a list holds
 abbrev pub roomOf : List ℕ → ℕ
@@ -18,7 +18,7 @@ roomOf list = length list / width
 -- the first n errors, in order of arrival
 unfoldable pub errorsOf : ℕ → List ℕ → List Error
 errorsOf zero list = []
-errorsOf (suc n) list = errorsOf n list ++ (errorAt list (n * width) ∷ [])
+errorsOf (suc n) list = errorsOf n list ++ (recordAt list (n * width) ∷ [])
 
 -- what adding leaves in the list, and its outcome: the count of errors
 pub record After : Type 0 where

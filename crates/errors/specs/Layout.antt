@@ -12,8 +12,8 @@ unfoldable pub numbers : Error → List ℕ
 numbers e = e .offset ∷ e .line ∷ e .column ∷ e .number ∷ []
 
 -- the error whose record stands at a place
-unfoldable pub errorAt : List ℕ → ℕ → Error
-errorAt list at =
+unfoldable pub recordAt : List ℕ → ℕ → Error
+recordAt list at =
     record {
       offset = getD list at 0;
       line = getD list (at + 1) 0;

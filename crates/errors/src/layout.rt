@@ -3,7 +3,7 @@ ghost use mathlib.Core.Path.{_≡_};
 ghost use Prim.Native.Nat.{_+_, _≤_};
 ghost use lib.ListN.{length};
 ghost use lib.Seq.{sets};
-ghost use Rattle.errors.specs.Layout.{width, numbers, errorAt};
+ghost use Rattle.errors.specs.Layout.{width, numbers, recordAt};
 
 // An error: where it was found, and its number.
 pub struct Error {
@@ -30,12 +30,16 @@ pub(crate) fn write(list: &mut [usize], at: usize, error: Error)
 // The error whose record stands at a place.
 pub(crate) fn read(list: &[usize], at: usize) -> Error
     requires { ⌜ at + width ≤ length (now list) ⌝ }
-    ensures { λ r. ⌜ r ≡ errorAt (now (list .entry)) at ⌝ }
+    ensures { λ r. ⌜ r ≡ recordAt (now (list .entry)) at ⌝ }
 {
+    let offset = list[at];
+    let line = list[at + 1];
+    let column = list[at + 2];
+    let number = list[at + 3];
     Error {
-        offset: list[at],
-        line: list[at + 1],
-        column: list[at + 2],
-        number: list[at + 3],
+        offset,
+        line,
+        column,
+        number,
     }
 }

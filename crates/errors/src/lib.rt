@@ -53,7 +53,8 @@ pub fn add(list: &mut [usize], count: usize, error: Error) -> Added
         return Added::Refused(refusal::LIST_FULL);
     }
     layout::write(list, count * layout::WIDTH, error);
-    Added::Count(count + 1)
+    let errors = count + 1;
+    Added::Count(errors)
 }
 
 // The error at an index, from 0, of a list of `count` errors.

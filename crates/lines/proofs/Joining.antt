@@ -1,11 +1,12 @@
 -- Reading in a joined text is reading in its second part, with every start raised.
 use Prim.Native.Nat.{ℕ, suc, _+_, _-_, _≤_, _<_}
+use Prim.Native.Char.{code}
 use mathlib.Core.Path.{_≡_, refl, sym, ap, _∙_}
 use mathlib.Core.Bool.{Bool, true, false, cond, _&&_}
 use mathlib.Core.List.{List, [], _∷_, _++_, map, append-assoc, map-append}
 use native.Mathlib.Nat.{add-zero, zero-add, add-suc, not-suc-le-zero}
 use native.Mathlib.Omega.{arith}
-use lib.Dec.{eqb, ltb}
+use lib.Dec.{ltb}
 use lib.ListN.{length, drop, length-append, length-map, List·getD-map, List·getD-append}
 use lib.Seq.{append-snoc, getD-append-add}
 use borrow.Author.Tests.{lt-ltb, eq-eqb}
@@ -73,7 +74,7 @@ module _ (n : ℕ) (first : List ℕ) where
   pub over-read : (size o : ℕ) (cs : List Char) (s : List ℕ) → 1 ≤ length s → readLines size (n + o) cs (over n first s) ≡ over n first (readLines (size - n) o cs s)
   unfolding readLines
   over-read size o [] s h = refl
-  over-read size o (c ∷ cs) s h = rw (← add-suc n o) (go (eqb (c .code) 10) (over-read size (suc o) cs))
+  over-read size o (c ∷ cs) s h = rw (← add-suc n o) (go (isLf c) (over-read size (suc o) cs))
     where
       go : (t : Bool) → ((r : List ℕ) → 1 ≤ length r → readLines size (n + suc o) cs (over n first r) ≡ over n first (readLines (size - n) (suc o) cs r))
           → readLines size (n + suc o) cs (cond t (recorded size (n + suc o) (over n first s)) (over n first s)) ≡ over n first (readLines (size - n) (suc o) cs (cond t (recorded (size - n) (suc o) s) s))
@@ -110,12 +111,12 @@ module _ (n : ℕ) (first : List ℕ) where
 -- ---- a text that ends in a line feed
 
 -- such a text is other characters and the line feed
-ends-ind : (P : List Char → Type 0) → ((a : List Char) (c : Char) → c .code ≡ 10 → P (a ++ (c ∷ []))) → (t : List Char) → Ends t → P t
+ends-ind : (P : List Char → Type 0) → ((a : List Char) (c : Char) → c .code ≡ code "\n" → P (a ++ (c ∷ []))) → (t : List Char) → Ends t → P t
 ends-ind P f [] h = absurd h
 ends-ind P f (c ∷ []) h = f [] c h
 ends-ind P f (c ∷ d ∷ t) h = ends-ind (λ r. P (c ∷ r)) (λ a x e. f (c ∷ a) x e) (d ∷ t) h
 
-module _ (a : List Char) (c : Char) (e : c .code ≡ 10) where
+module _ (a : List Char) (c : Char) (e : c .code ≡ code "\n") where
   length-snoc : length (a ++ (c ∷ [])) ≡ suc (0 + length a)
   length-snoc = length-append a (c ∷ []) ∙ omega arith
 
@@ -137,7 +138,7 @@ module _ (a : List Char) (c : Char) (e : c .code ≡ 10) where
   count-snoc : length (startsOf (a ++ (c ∷ []))) ≡ count isLf (a ++ (c ∷ []))
   count-snoc =
       let n = length (a ++ (c ∷ [])) in
-      let k = rw (eq-eqb (c .code) 10 e) at (starts-count-end n 0 a c (omega arith)) in
+      let k = rw (eq-eqb (c .code) (code "\n") e) at (starts-count-end n 0 a c (omega arith)) in
       rw (read-new n 0 (a ++ (c ∷ [])) (0 ∷ []) (omega arith)) (omega (arith, k))
 
 -- within a longer text its line feed adds the start of the next

@@ -5,11 +5,12 @@ use mathlib.Core.Bool.{Bool, true, false, cond, _&&_}
 use mathlib.Core.List.{List, [], _∷_, _++_}
 use native.Mathlib.Nat.{add-zero, add-suc, suc-add, le-of-suc-le-suc, not-suc-le-zero}
 use native.Mathlib.Omega.{arith}
-use lib.Dec.{eqb, ltb}
+use lib.Dec.{ltb}
 use lib.ListN.{length, getD}
 use borrow.Author.Tests.{ltb-true}
 use Rattle.basics.proofs.Choice.{cond-ind, and-split}
 use Rattle.utf8.specs.declared.Char.{Char}
+use Rattle.utf8.specs.Count.{isLf}
 use Rattle.position.specs.Lines.{lineStart, StrictlyRising}
 use Rattle.position.proofs.Lines.{AtMost, FromZero, at-most-up, at-most-append, from-zero-append, rising-snoc}
 use Rattle.lines.specs.Starts.{recorded, readLines, startsRead}
@@ -17,9 +18,9 @@ use Rattle.lines.proofs.Reading.{last-snoc, read-new}
 
 -- what one character keeps, with a start added and with none, all of them keep
 module _ (size : ℕ) (P : ℕ → List ℕ → Type 0) (next : (o : ℕ) (s : List ℕ) → P o s → P (suc o) s) (more : (o : ℕ) (s : List ℕ) → P o s → lineStart s (length s) < suc o → suc o < size → P (suc o) (s ++ (suc o ∷ []))) where
-  one-keeps : (o : ℕ) (c : Char) (s : List ℕ) → P o s → P (suc o) (cond (eqb (c .code) 10) (recorded size (suc o) s) s)
+  one-keeps : (o : ℕ) (c : Char) (s : List ℕ) → P o s → P (suc o) (cond (isLf c) (recorded size (suc o) s) s)
   one-keeps o c s h =
-      cond-ind (P (suc o)) (eqb (c .code) 10) (recorded size (suc o) s) s
+      cond-ind (P (suc o)) (isLf c) (recorded size (suc o) s) s
       (λ e. cond-ind (P (suc o)) _ (s ++ (suc o ∷ [])) s
       (λ f. let g = and-split _ _ f in more o s h (ltb-true _ _ (g .0)) (ltb-true _ _ (g .1)))
       (λ f. next o s h))
@@ -29,7 +30,7 @@ module _ (size : ℕ) (P : ℕ → List ℕ → Type 0) (next : (o : ℕ) (s : L
   unfolding readLines
   read-keeps o [] s h = rw (add-zero o) h
   read-keeps o (c ∷ cs) s h =
-      rw (add-suc o (length cs), ← suc-add o (length cs)) (read-keeps (suc o) cs (cond (eqb (c .code) 10) (recorded size (suc o) s) s) (one-keeps o c s h))
+      rw (add-suc o (length cs), ← suc-add o (length cs)) (read-keeps (suc o) cs (cond (isLf c) (recorded size (suc o) s) s) (one-keeps o c s h))
 
 module _ (size o : ℕ) (cs : List Char) (s : List ℕ) where
   pub read-from-zero : FromZero s → FromZero (readLines size o cs s)
@@ -67,7 +68,7 @@ module _ (size o : ℕ) (cs : List Char) where
 pub starts-between : (size o : ℕ) (cs : List Char) (k : ℕ) → k < length (startsRead size o cs) → (o < getD (startsRead size o cs) k 0) × (getD (startsRead size o cs) k 0 < size)
 unfolding startsRead
 starts-between size o [] k h = absurd (not-suc-le-zero h)
-starts-between size o (c ∷ cs) k h = go (eqb (c .code) 10) (ltb (suc o) size) refl k (starts-between size (suc o) cs) h
+starts-between size o (c ∷ cs) k h = go (isLf c) (ltb (suc o) size) refl k (starts-between size (suc o) cs) h
   where
     rest : List ℕ
     rest = startsRead size (suc o) cs

@@ -1,5 +1,6 @@
 -- Writing and counting the starts: which characters give one, one step at a place of a text, and a table that is full.
 use Prim.Native.Nat.{ℕ, zero, suc, _+_, _-_, _≤_, _<_, min}
+use Prim.Native.Char.{code}
 use mathlib.Core.Path.{_≡_, refl, sym, ap, _∙_}
 use mathlib.Core.Bool.{and-false}
 use mathlib.Core.List.{List, [], _∷_}
@@ -13,7 +14,7 @@ use lib.Seq.{sets, set-out, take-nil, take-take}
 use borrow.Author.Tests.{lt-ltb, le-ltb, eq-eqb, ne-eqb}
 use Rattle.utf8.specs.declared.Char.{Char}
 use Rattle.utf8.specs.Chars.{charAt, chars}
-use Rattle.utf8.proofs.First.{chars-end, chars-ascii, there-chars}
+use Rattle.utf8.proofs.First.{chars-end, there-chars}
 use Rattle.utf8.proofs.Count.{code-at}
 use Rattle.lines.specs.Starts.{startsRead}
 
@@ -45,15 +46,17 @@ starts-take size o zero cs h = sym (starts-past size o cs (omega arith))
 starts-take size o (suc k) [] h = refl
 starts-take size o (suc k) (c ∷ cs) h = rw (starts-take size (suc o) k cs (omega arith))
 
-pub starts-least : (size o k r : ℕ) (cs : List Char) → o < size → r ≡ min k (size - 1 - o) → startsRead size o (take k cs) ≡ startsRead size o (take (o + r - o) cs)
-starts-least size o k r cs h e = elim (decLe k (size - 1 - o)) [ yes l ↦ all l | no l ↦ some l ]
+-- and so are those before the last offset at which one is read
+pub starts-end : (size o k end : ℕ) (cs : List Char) → end ≡ o + min k (size - 1 - o) → startsRead size o (take k cs) ≡ startsRead size o (take (end - o) cs)
+starts-end size o k end cs e = elim (decLe k (size - 1 - o)) [ yes l ↦ all l | no l ↦ some l ]
   where
-    all : k ≤ size - 1 - o → startsRead size o (take k cs) ≡ startsRead size o (take (o + r - o) cs)
-    all l = let f : o + r - o ≡ k = omega arith in rw f
+    all : k ≤ size - 1 - o → startsRead size o (take k cs) ≡ startsRead size o (take (end - o) cs)
+    all l = let f : end - o ≡ k = omega arith in rw f
 
-    some : (k ≤ size - 1 - o → ⊥) → startsRead size o (take k cs) ≡ startsRead size o (take (o + r - o) cs)
+    some : (k ≤ size - 1 - o → ⊥) → startsRead size o (take k cs) ≡ startsRead size o (take (end - o) cs)
     some l =
-        let f : o + r - o ≡ r = omega arith in
+        let r = size - 1 - o in
+        let f : end - o ≡ r = omega arith in
         rw (f, ← take-take r k cs (omega arith)) (sym (starts-take size o r (take k cs) (omega arith)))
 
 pub starts-stop : (size end o : ℕ) (cs : List Char) → end ≤ o → startsRead size o (take (end - o) cs) ≡ []
@@ -66,19 +69,15 @@ module _ (size end : ℕ) (s : List ℕ) (p o : ℕ) where
   unfolding startsRead
   starts-over h = rw (chars-end s p h, take-nil (end - o))
 
-  module _ (low : o < end) (below : end < size) (h : p < length s) where
+  module _ (q : ℕ) (low : o < end) (below : end < size) (h : p < length s) (next : q ≡ p + charAt s p .width) where
     left : end - o ≡ suc (end - (o + 1))
     left = omega arith
 
-    pub starts-feed : getD s p 0 ≡ 10 → startsRead size o (take (end - o) (chars (drop p s))) ≡ (o + 1) ∷ startsRead size (o + 1) (take (end - (o + 1)) (chars (drop (p + 1) s)))
+    pub starts-feed : getD s p 0 ≡ code "\n" → startsRead size o (take (end - o) (chars (drop p s))) ≡ (o + 1) ∷ startsRead size (o + 1) (take (end - (o + 1)) (chars (drop q s)))
     unfolding startsRead
-    starts-feed e = rw (chars-ascii s p h (omega arith), left, eq-eqb _ _ e, lt-ltb (suc o) size (omega arith), add-one o)
+    starts-feed e =
+        rw (next, there-chars s p (charAt s p) h refl, left, code-at s p (charAt s p) (code "\n") h refl (lit< tt), eq-eqb _ _ e, lt-ltb (suc o) size (omega arith), add-one o)
 
-    module _ (n : getD s p 0 ≡ 10 → ⊥) where
-      pub starts-ascii : getD s p 0 < 0x80 → startsRead size o (take (end - o) (chars (drop p s))) ≡ startsRead size (o + 1) (take (end - (o + 1)) (chars (drop (p + 1) s)))
-      unfolding startsRead
-      starts-ascii l = rw (chars-ascii s p h l, left, ne-eqb _ _ n, add-one o)
-
-      pub starts-wide : (c : Char) → c ≡ charAt s p → startsRead size o (take (end - o) (chars (drop p s))) ≡ startsRead size (o + 1) (take (end - (o + 1)) (chars (drop (p + c .width) s)))
-      unfolding startsRead
-      starts-wide c e = rw (there-chars s p c h e, left, code-at s p c 10 h e (lit< tt), ne-eqb _ _ n, add-one o)
+    pub starts-other : (getD s p 0 ≡ code "\n" → ⊥) → startsRead size o (take (end - o) (chars (drop p s))) ≡ startsRead size (o + 1) (take (end - (o + 1)) (chars (drop q s)))
+    unfolding startsRead
+    starts-other n = rw (next, there-chars s p (charAt s p) h refl, left, code-at s p (charAt s p) (code "\n") h refl (lit< tt), ne-eqb _ _ n, add-one o)

@@ -1,5 +1,5 @@
 // How many line starts characters give.
-use crate::least;
+use crate::step;
 ghost use mathlib.Core.Path.{_≡_};
 ghost use lib.ListN.{length, take, drop};
 ghost use Rattle.utf8.specs.Chars.{chars};
@@ -9,11 +9,7 @@ ghost use Rattle.lines.specs.Starts.{startsRead};
 pub fn count_starts(src: &[u8], at: usize, count: usize, offset: usize, size: usize) -> usize
     ensures { λ r. ⌜ r ≡ length (startsRead size offset (take count (chars (drop at (now (src .entry)))))) ⌝ }
 {
-    if size <= offset {
-        return 0;
-    }
-    // a start is below the size, so the last character gives none
-    let end = offset + least(count, size - 1 - offset);
+    let end = step::end_offset(count, offset, size);
     let mut p = at;
     let mut o = offset;
     let mut n = 0;
@@ -23,13 +19,9 @@ pub fn count_starts(src: &[u8], at: usize, count: usize, offset: usize, size: us
         }
         let b = src[p];
         o += 1;
-        if b == 10 {
+        p = step::next_place(src, p);
+        if b == b'\n' {
             n += 1;
-            p += 1;
-        } else if b < 128 {
-            p += 1;
-        } else {
-            p += utf8::char_at(src, p).width;
         }
     }
     n

@@ -1,5 +1,6 @@
 -- A number is ASCII: the place after it is as many bytes on as it has characters.
 use Prim.Native.Nat.{ℕ, _+_}
+use Prim.Native.Char.{code}
 use mathlib.Core.Path.{_≡_, ap}
 use mathlib.Core.List.{List}
 use native.Mathlib.Nat.{add-assoc}
@@ -27,14 +28,14 @@ module _ (s : List ℕ) where
     number-illegal e = rw (eq-eqb _ _ e)
 
     module _ (good : withoutI (chars (drop at s)) .kind ≡ ILLEGAL → ⊥) where
-      pub number-imaginary : getD s (at + withoutI (chars (drop at s)) .len) 0 ≡ 105
+      pub number-imaginary : getD s (at + withoutI (chars (drop at s)) .len) 0 ≡ code "i"
           → numberAt at (number (chars (drop at s)))
           ≡ record { kind = IMAG; end = at + withoutI (chars (drop at s)) .len + 1; error = 0; spelling = withoutI (chars (drop at s)) .spelling }
       unfolding number
       number-imaginary e =
-          rw (ne-eqb _ _ good, i-there, code-next s (at + withoutI (chars (drop at s)) .len) 105 (lit< tt), eq-eqb _ _ e, add-assoc)
+          rw (ne-eqb _ _ good, i-there, code-next s (at + withoutI (chars (drop at s)) .len) (code "i") (lit< tt), eq-eqb _ _ e, add-assoc)
 
-      pub number-other : (getD s (at + withoutI (chars (drop at s)) .len) 0 ≡ 105 → ⊥)
+      pub number-other : (getD s (at + withoutI (chars (drop at s)) .len) 0 ≡ code "i" → ⊥)
           → numberAt at (number (chars (drop at s))) ≡ numberAt at (withoutI (chars (drop at s)))
       unfolding number
-      number-other e = rw (ne-eqb _ _ good, i-there, code-next s (at + withoutI (chars (drop at s)) .len) 105 (lit< tt), ne-eqb _ _ e)
+      number-other e = rw (ne-eqb _ _ good, i-there, code-next s (at + withoutI (chars (drop at s)) .len) (code "i") (lit< tt), ne-eqb _ _ e)

@@ -1,5 +1,6 @@
 -- Laws of runs of digits: one step at a place of a text, by the byte there.
 use Prim.Native.Nat.{ℕ, zero, suc, _+_, _≤_, _<_}
+use Prim.Native.Char.{code}
 use mathlib.Core.Path.{_≡_}
 use mathlib.Core.Bool.{Bool, true, false}
 use mathlib.Core.List.{List, [], _∷_}
@@ -19,7 +20,8 @@ use Rattle.utf8.proofs.First.{chars-at, chars-end, chars-ascii}
 use Rattle.utf8.proofs.Places.{code-there, ascii-place}
 use Rattle.digits.specs.Digit.{digitVal}
 use Rattle.digits.proofs.Digits.{digit-low, digit-there}
-use Rattle.numbers.specs.Run.{Run, stop, more, digitRun, strictRun, digitsAt}
+use Rattle.numbers.specs.Run.{Run, stop, more, digitRun, strictRun}
+use Rattle.numbers.specs.Steps.{digitsAt}
 
 -- one character on from a place
 pub digits-more : (p : ℕ) (d : Run) → digitsAt p (more d) ≡ digitsAt (p + 1) d
@@ -39,11 +41,11 @@ module _ (base : ℕ) (s : List ℕ) (p : ℕ) where
     run-digit u d l = rw (chars-ascii s p h (digit-low (getD s p 0) (omega arith)), lt-ltb _ _ d)
 
     module _ (d : base ≤ digitVal (getD s p 0)) where
-      pub run-other : (u : Bool) → (getD s p 0 ≡ 95 → ⊥) → digitRun base u (chars (drop p s)) ≡ stop u
+      pub run-other : (u : Bool) → (getD s p 0 ≡ code "_" → ⊥) → digitRun base u (chars (drop p s)) ≡ stop u
       unfolding digitRun
-      run-other u e = rw (chars-at s p h, digit-there s p h, le-ltb _ _ d, code-there s p 95 h (lit< tt), ne-eqb _ _ e)
+      run-other u e = rw (chars-at s p h, digit-there s p h, le-ltb _ _ d, code-there s p (code "_") h (lit< tt), ne-eqb _ _ e)
 
-      module _ (e : getD s p 0 ≡ 95) where
+      module _ (e : getD s p 0 ≡ code "_") where
         under-low : getD s p 0 < 0x80
         under-low = omega arith
 
@@ -57,28 +59,28 @@ module _ (base : ℕ) (s : List ℕ) (p : ℕ) where
 
 -- where no underscore may stand first
 module _ (base : ℕ) (s : List ℕ) (p : ℕ) where
-  pub strict-under : getD s p 0 ≡ 95 → strictRun base (chars (drop p s)) ≡ stop true
+  pub strict-under : getD s p 0 ≡ code "_" → strictRun base (chars (drop p s)) ≡ stop true
   unfolding strictRun
-  strict-under e = let h = reach s p (omega arith) in rw (chars-at s p h, code-there s p 95 h (lit< tt), eq-eqb _ _ e)
+  strict-under e = let h = reach s p (omega arith) in rw (chars-at s p h, code-there s p (code "_") h (lit< tt), eq-eqb _ _ e)
 
-  pub strict-other : (getD s p 0 ≡ 95 → ⊥) → strictRun base (chars (drop p s)) ≡ digitRun base false (chars (drop p s))
+  pub strict-other : (getD s p 0 ≡ code "_" → ⊥) → strictRun base (chars (drop p s)) ≡ digitRun base false (chars (drop p s))
   unfolding strictRun digitRun
   strict-other e =
       elim (decLt p (length s)) [
-        | yes h ↦ rw (chars-at s p h, code-there s p 95 h (lit< tt), ne-eqb _ _ e)
+        | yes h ↦ rw (chars-at s p h, code-there s p (code "_") h (lit< tt), ne-eqb _ _ e)
         | no h ↦ rw (chars-end s p (omega arith))
       ]
 
 -- ---- the characters of a run are ASCII and no line feed
 -- the first n characters are; a code above 0 is there, as 0 stands past the end
 unfoldable pub Plain : ℕ → List Char → Type 0
-Plain n r = (i : ℕ) → i < n → (0 < getD r i ended .code) × (getD r i ended .code < 0x80) × (getD r i ended .code ≢ 10)
+Plain n r = (i : ℕ) → i < n → (0 < getD r i ended .code) × (getD r i ended .code < 0x80) × (getD r i ended .code ≢ code "\n")
 
 pub plain-none : (r : List Char) → Plain 0 r
 unfolding Plain
 plain-none r i h = absurd (omega arith)
 
-pub plain-more : (n : ℕ) (c : Char) (r : List Char) → 0 < c .code → c .code < 0x80 → c .code ≢ 10 → Plain n r → Plain (suc n) (c ∷ r)
+pub plain-more : (n : ℕ) (c : Char) (r : List Char) → 0 < c .code → c .code < 0x80 → c .code ≢ code "\n" → Plain n r → Plain (suc n) (c ∷ r)
 unfolding Plain
 plain-more n c r l h e f zero k = (l, h, e)
 plain-more n c r l h e f (suc i) k = f i (omega arith)
@@ -93,10 +95,10 @@ no-digit : ℕ → Bool
 no-digit c = eqb (digitVal c) 16
 
 -- a digit is none of the first characters
-pub digit-from : (c : ℕ) → digitVal c < 16 → 48 ≤ c
+pub digit-from : (c : ℕ) → digitVal c < 16 → code "0" ≤ c
 unfolding no-digit digitVal
 digit-from c l =
-    elim (decLt c 48) [
+    elim (decLt c (code "0")) [
       | yes h ↦ absurd (omega (arith, eqb→eq (digitVal c) 16 (every-below no-digit 48 tt c h)))
       | no h ↦ omega arith
     ]
@@ -107,21 +109,21 @@ run-plain base b u [] = plain-none []
 run-plain base b u (c ∷ r) =
     cond-ind (λ (d : Run). Plain (d .len) (c ∷ r)) (ltb (digitVal (c .code)) base) _ _
     (λ e. digit _ (ltb-true _ _ e) (run-plain base b false r))
-    (λ _. cond-ind (λ (d : Run). Plain (d .len) (c ∷ r)) (eqb (c .code) 95) _ _
-    (λ e. cond-ind (λ (d : Run). Plain (d .len) (c ∷ r)) u _ _ (λ _. plain-none (c ∷ r)) (λ _. under _ (eqb-true (c .code) 95 e) (run-plain base b true r)))
+    (λ _. cond-ind (λ (d : Run). Plain (d .len) (c ∷ r)) (eqb (c .code) (code "_")) _ _
+    (λ e. cond-ind (λ (d : Run). Plain (d .len) (c ∷ r)) u _ _ (λ _. plain-none (c ∷ r)) (λ _. under _ (eqb-true (c .code) (code "_") e) (run-plain base b true r)))
     (λ _. plain-none (c ∷ r)))
   where
     digit : (n : ℕ) → digitVal (c .code) < base → Plain n r → Plain (suc n) (c ∷ r)
     digit n l f =
         let h = digit-from (c .code) (omega arith) in plain-more n c r (omega arith) (digit-low (c .code) (omega arith)) (λ e. omega arith) f
 
-    under : (n : ℕ) → c .code ≡ 95 → Plain n r → Plain (suc n) (c ∷ r)
+    under : (n : ℕ) → c .code ≡ code "_" → Plain n r → Plain (suc n) (c ∷ r)
     under n e f = plain-more n c r (omega arith) (omega arith) (λ z. omega arith) f
 
 strict-is : (P : Run → Type 0) (base : ℕ) (r : List Char) → P (stop true) → P (digitRun base false r) → P (strictRun base r)
 unfolding strictRun digitRun
 strict-is P base [] f g = g
-strict-is P base (c ∷ r) f g = cond-ind P (eqb (c .code) 95) _ _ (λ _. f) (λ _. g)
+strict-is P base (c ∷ r) f g = cond-ind P (eqb (c .code) (code "_")) _ _ (λ _. f) (λ _. g)
 
 pub strict-plain : (base : ℕ) → base ≤ 16 → (r : List Char) → Plain (strictRun base r .len) r
 strict-plain base b r = strict-is (λ (d : Run). Plain (d .len) r) base r (plain-none r) (run-plain base b false r)

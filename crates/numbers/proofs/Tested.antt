@@ -1,5 +1,6 @@
 -- What every number reads: characters that are ASCII and no line feed, as each was tested, and those that its spelling tells of. Its kind is one of four, and if it starts with a decimal digit or a point it reads some character.
 use Prim.Native.Nat.{ℕ, zero, suc, _+_, _-_, _≤_, _<_}
+use Prim.Native.Char.{code}
 use mathlib.Core.Path.{_≡_, refl, sym, subst, _∙_}
 use mathlib.Core.Bool.{Bool, true, false, _&&_, _||_}
 use mathlib.Core.List.{List, [], _∷_}
@@ -17,11 +18,12 @@ use Rattle.utf8.specs.declared.Char.{Char}
 use Rattle.utf8.specs.Chars.{ended, peek}
 use Rattle.kinds.specs.Kinds.{ILLEGAL, INT, FLOAT, IMAG}
 use Rattle.kinds.specs.Precedence.{among}
+use Rattle.errors.specs.Numbers.{BAD-BINARY, BAD-OCTAL, BAD-HEXADECIMAL}
 use Rattle.digits.specs.Digit.{digitVal, isDecimal}
 use Rattle.numbers.specs.declared.Spelling.{Spelling}
 use Rattle.numbers.specs.declared.Spelling.the-variants.{AsRead, LowerPrefix, OctalPrefix, LowerExponent}
 use Rattle.numbers.specs.Run.{digitRun, strictRun}
-use Rattle.numbers.specs.Number.{Reading, after, exponentDigits, exponent, finish, fraction, decimalRest, decimal, prefixed, bareZero, leadingZero, withoutI, number}
+use Rattle.numbers.specs.Number.{Numeral, after, exponentDigits, exponent, finish, fraction, decimalRest, decimal, prefixed, bareZero, leadingZero, withoutI, number}
 use Rattle.numbers.proofs.Runs.{Plain, plain-none, plain-more, plain-within, run-plain, strict-plain}
 
 -- the kinds that a number may have
@@ -31,9 +33,9 @@ isNumeric kind = among kind (ILLEGAL ∷ INT ∷ FLOAT ∷ IMAG ∷ [])
 -- what a spelling tells of the first n characters: a prefix in upper case, a 0, an E
 abbrev pub Spelled : Spelling → List Char → ℕ → Type 0
 Spelled AsRead r n = Unit
-Spelled LowerPrefix r n = (2 ≤ n) × (between 65 (getD r 1 ended .code) 90 ≡ true)
+Spelled LowerPrefix r n = (2 ≤ n) × (between (code "A") (getD r 1 ended .code) (code "Z") ≡ true)
 Spelled OctalPrefix r n = 1 ≤ n
-Spelled LowerExponent r n = (i : ℕ) × (i < n) × (getD r i ended .code ≡ 69)
+Spelled LowerExponent r n = (i : ℕ) × (i < n) × (getD r i ended .code ≡ code "E")
 
 spelled-on : (sp : Spelling) (r : List Char) (n m : ℕ) → Spelled sp r n → Spelled sp r (n + m)
 spelled-on AsRead r n m h = tt
@@ -43,7 +45,7 @@ spelled-on LowerExponent r n m h = (h .0, omega (arith, h .1), h .2)
 
 -- the first character is a decimal digit, unless it is a point
 abbrev pub Starts : List Char → Type 0
-Starts r = eqb (peek r) 46 ≡ false → isDecimal (peek r) ≡ true
+Starts r = eqb (peek r) (code ".") ≡ false → isDecimal (peek r) ≡ true
 
 plain-add : (n m : ℕ) (r : List Char) → Plain n r → Plain m (drop n r) → Plain (n + m) r
 unfolding Plain
@@ -54,7 +56,7 @@ plain-add n m r f g i h =
     ]
 
 -- a character that a test found
-plain-one : (r : List Char) (x : ℕ) → 0 < x → x < 0x80 → x ≢ 10 → eqb (peek r) x ≡ true → Plain 1 r
+plain-one : (r : List Char) (x : ℕ) → 0 < x → x < 0x80 → x ≢ code "\n" → eqb (peek r) x ≡ true → Plain 1 r
 plain-one [] x l h n e = absurd (omega (arith, eqb-true 0 x e))
 plain-one (c ∷ r) x l h n e =
     let z = eqb-true (c .code) x e in plain-more 0 c r (omega arith) (omega arith) (λ k. n (sym z ∙ k)) (plain-none r)
@@ -67,10 +69,10 @@ peek-at (suc p) (c ∷ r) = peek-at p r
 
 run-some : (r : List Char) → isDecimal (peek r) ≡ true → 0 < digitRun 10 false r .len
 unfolding digitRun digitVal
-run-some [] e = absurd (omega (arith, between-true 48 0 57 e .0))
+run-some [] e = absurd (omega (arith, between-true (code "0") 0 (code "9") e .0))
 run-some (c ∷ r) e =
-    let z = between-true 48 (c .code) 57 e in
-    rw (in-between 48 (c .code) 57 (z .0) (z .1), lt-ltb (c .code - 48) 10 (omega arith)) (omega arith)
+    let z = between-true (code "0") (c .code) (code "9") e in
+    rw (in-between (code "0") (c .code) (code "9") (z .0) (z .1), lt-ltb (c .code - (code "0")) 10 (omega arith)) (omega arith)
 
 module _ (r : List Char) where
   -- what holds of the first n characters, and of a reading from the first character on
@@ -79,7 +81,7 @@ module _ (r : List Char) where
     pub spelled : Spelled sp r n
     pub some : Starts r → 0 < n
 
-  abbrev Read : Reading → Type 0
+  abbrev Read : Numeral → Type 0
   Read x = Begun (x .spelling) (x .len) × T (isNumeric (x .kind))
 
   -- m characters more
@@ -88,7 +90,7 @@ module _ (r : List Char) where
       record { plain = plain-add n m r (b .plain) f; spelled = spelled-on sp r n m (b .spelled); some = λ h. omega (arith, b .some h) }
 
   -- what follows m characters more
-  on : (n m : ℕ) (f : List Char → Reading) → Read (after (n + m) (f (drop (n + m) r))) → Read (after n (after m (f (drop m (drop n r)))))
+  on : (n m : ℕ) (f : List Char → Numeral) → Read (after (n + m) (f (drop (n + m) r))) → Read (after n (after m (f (drop m (drop n r)))))
   on n m f h = rw (drop-drop m n r, ← add-assoc n m (f (drop (n + m) r) .len)) h
 
   -- ---- an exponent
@@ -103,26 +105,26 @@ module _ (r : List Char) where
     exponent-read : (n : ℕ) → Begun sp n → Read (after n (exponent sp (drop n r)))
     unfolding exponent
     exponent-read n b =
-        cond-ind (λ x. Read (after n x)) (eqb (peek (drop n r)) 43 || eqb (peek (drop n r)) 45) _ _
+        cond-ind (λ x. Read (after n x)) (eqb (peek (drop n r)) (code "+") || eqb (peek (drop n r)) (code "-")) _ _
         (λ e. on n 1 (λ q. exponentDigits sp (strictRun 10 q)) (digits-read (n + 1) (more sp n 1 b (signed e)))) (λ _. digits-read n b)
       where
-        signed : eqb (peek (drop n r)) 43 || eqb (peek (drop n r)) 45 ≡ true → Plain 1 (drop n r)
+        signed : eqb (peek (drop n r)) (code "+") || eqb (peek (drop n r)) (code "-") ≡ true → Plain 1 (drop n r)
         signed e =
-            ⊎-elim (λ f. plain-one (drop n r) 43 (lit< tt) (lit< tt) (λ z. omega arith) f) (λ f. plain-one (drop n r) 45 (lit< tt) (lit< tt) (λ z. omega arith) (rw f at e))
-            (either (eqb (peek (drop n r)) 43))
+            ⊎-elim (λ f. plain-one (drop n r) (code "+") (lit< tt) (lit< tt) (λ z. omega arith) f) (λ f. plain-one (drop n r) (code "-") (lit< tt) (lit< tt) (λ z. omega arith) (rw f at e))
+            (either (eqb (peek (drop n r)) (code "+")))
 
   -- ---- the rest of a decimal number
   finish-read : (kind : ℕ) → T (isNumeric kind) → (n : ℕ) → Begun AsRead n → Read (after n (finish kind (drop n r)))
   unfolding finish
   finish-read kind k n b =
-      cond-ind (λ x. Read (after n x)) (eqb (peek (drop n r)) 101) _ _
-      (λ e. on n 1 (exponent AsRead) (exponent-read AsRead (n + 1) (more AsRead n 1 b (plain-one (drop n r) 101 (lit< tt) (lit< tt) (λ z. omega arith) e))))
-      (λ _. cond-ind (λ x. Read (after n x)) (eqb (peek (drop n r)) 69) _ _ (λ e. on n 1 (exponent LowerExponent) (exponent-read LowerExponent (n + 1) (upper e)))
+      cond-ind (λ x. Read (after n x)) (eqb (peek (drop n r)) (code "e")) _ _
+      (λ e. on n 1 (exponent AsRead) (exponent-read AsRead (n + 1) (more AsRead n 1 b (plain-one (drop n r) (code "e") (lit< tt) (lit< tt) (λ z. omega arith) e))))
+      (λ _. cond-ind (λ x. Read (after n x)) (eqb (peek (drop n r)) (code "E")) _ _ (λ e. on n 1 (exponent LowerExponent) (exponent-read LowerExponent (n + 1) (upper e)))
       (λ _. (more AsRead n 0 b (plain-none (drop n r)), k)))
     where
-      upper : eqb (peek (drop n r)) 69 ≡ true → Begun LowerExponent (n + 1)
+      upper : eqb (peek (drop n r)) (code "E") ≡ true → Begun LowerExponent (n + 1)
       upper e =
-          let o = more AsRead n 1 b (plain-one (drop n r) 69 (lit< tt) (lit< tt) (λ z. omega arith) e) in
+          let o = more AsRead n 1 b (plain-one (drop n r) (code "E") (lit< tt) (lit< tt) (λ z. omega arith) e) in
           record { plain = o .plain; spelled = (n, omega arith, sym (peek-at n r) ∙ eqb-true _ _ e); some = o .some }
 
   fraction-read : (n : ℕ) → Begun AsRead n → Read (after n (fraction (drop n r)))
@@ -133,14 +135,14 @@ module _ (r : List Char) where
       cond-ind (λ x. Read (after n x)) (d .misplaced) _ _ (λ _. (o, tt))
       (λ _. on n (d .len) (finish FLOAT) (finish-read FLOAT tt (n + d .len) o))
 
-  point-read : (n : ℕ) → Begun AsRead n → eqb (peek (drop n r)) 46 ≡ true → Read (after n (after 1 (fraction (drop 1 (drop n r)))))
+  point-read : (n : ℕ) → Begun AsRead n → eqb (peek (drop n r)) (code ".") ≡ true → Read (after n (after 1 (fraction (drop 1 (drop n r)))))
   point-read n b e =
-      on n 1 fraction (fraction-read (n + 1) (more AsRead n 1 b (plain-one (drop n r) 46 (lit< tt) (lit< tt) (λ z. omega arith) e)))
+      on n 1 fraction (fraction-read (n + 1) (more AsRead n 1 b (plain-one (drop n r) (code ".") (lit< tt) (lit< tt) (λ z. omega arith) e)))
 
   rest-read : (n : ℕ) → Begun AsRead n → Read (after n (decimalRest (drop n r)))
   unfolding decimalRest
   rest-read n b =
-      cond-ind (λ x. Read (after n x)) (eqb (peek (drop n r)) 46) _ _ (point-read n b) (λ _. finish-read INT tt n b)
+      cond-ind (λ x. Read (after n x)) (eqb (peek (drop n r)) (code ".")) _ _ (point-read n b) (λ _. finish-read INT tt n b)
 
   -- ---- a number with a prefix
   prefixed-read : (base error : ℕ) (sp : Spelling) → base ≤ 16 → (n : ℕ) → Begun sp n → Read (after n (prefixed base error sp (drop n r)))
@@ -149,11 +151,10 @@ module _ (r : List Char) where
       let d = digitRun base false (drop n r) in
       let o = more sp n (d .len) b (run-plain base h false (drop n r)) in
       cond-ind (λ x. Read (after n x)) (d .misplaced) _ _ (λ _. (o, tt))
-      (λ _. cond-ind (λ x. Read (after n x)) (eqb (d .len) 0) _ _ (λ _. (more sp n 0 b (plain-none (drop n r)), tt))
-      (λ _. cond-ind (λ x. Read (after n x)) (leb base 8 && isDecimal (peek (drop (d .len) (drop n r)))) _ _ (λ _. (o, tt)) (λ _. (o, tt))))
+      (λ _. cond-ind (λ x. Read (after n x)) (eqb (d .len) 0 || (leb base 8 && isDecimal (peek (drop (d .len) (drop n r))))) _ _ (λ _. (o, tt)) (λ _. (o, tt)))
 
   -- ---- from the first character on, which is no point
-  module _ (no-point : eqb (peek r) 46 ≡ false) where
+  module _ (no-point : eqb (peek r) (code ".") ≡ false) where
     decimal-read : Read (decimal r)
     unfolding decimal
     decimal-read =
@@ -161,17 +162,17 @@ module _ (r : List Char) where
         let o : Begun AsRead (d .len) = record { plain = run-plain 10 (lit≤ tt) false r; spelled = tt; some = λ s. run-some r (s no-point) } in
         cond-ind Read (d .misplaced) _ _ (λ _. (o, tt)) (λ _. rest-read (d .len) o)
 
-    module _ (zero-first : eqb (peek r) 48 ≡ true) where
+    module _ (zero-first : eqb (peek r) (code "0") ≡ true) where
       first : Plain 1 r
-      first = plain-one r 48 (lit< tt) (lit< tt) (λ z. omega arith) zero-first
+      first = plain-one r (code "0") (lit< tt) (lit< tt) (λ z. omega arith) zero-first
 
       bare-read : Read (bareZero r)
       unfolding bareZero
       bare-read =
           cond-ind Read (isDecimal (peek (drop 1 r))) _ _
-          (λ _. prefixed-read 8 2 OctalPrefix (lit≤ tt) 1 (record { plain = first; spelled = lit≤ tt; some = λ _. lit< tt })) (λ _. decimal-read)
+          (λ _. prefixed-read 8 BAD-OCTAL OctalPrefix (lit≤ tt) 1 (record { plain = first; spelled = lit≤ tt; some = λ _. lit< tt })) (λ _. decimal-read)
 
-      letter-read : (x base error : ℕ) (sp : Spelling) → 0 < x → x < 0x80 → x ≢ 10 → base ≤ 16 → (getD r 1 ended .code ≡ x → Spelled sp r 2) → eqb (peek (drop 1 r)) x ≡ true
+      letter-read : (x base error : ℕ) (sp : Spelling) → 0 < x → x < 0x80 → x ≢ code "\n" → base ≤ 16 → (getD r 1 ended .code ≡ x → Spelled sp r 2) → eqb (peek (drop 1 r)) x ≡ true
           → Read (after 2 (prefixed base error sp (drop 2 r)))
       letter-read x base error sp l h k b s e =
           prefixed-read base error sp b 2 (record { plain = plain-add 1 1 r first (plain-one (drop 1 r) x l h k e); spelled = s (sym (peek-at 1 r) ∙ eqb-true _ _ e); some = λ _. lit< tt })
@@ -179,19 +180,19 @@ module _ (r : List Char) where
       zero-read : Read (leadingZero r)
       unfolding leadingZero
       zero-read =
-          cond-ind Read (eqb (peek (drop 1 r)) 120) _ _ (letter-read 120 16 3 AsRead (lit< tt) (lit< tt) (λ z. omega arith) (lit≤ tt) (λ _. tt))
-          (λ _. cond-ind Read (eqb (peek (drop 1 r)) 88) _ _ (letter-read 88 16 3 LowerPrefix (lit< tt) (lit< tt) (λ z. omega arith) (lit≤ tt) (λ z. (lit≤ tt, rw z)))
-          (λ _. cond-ind Read (eqb (peek (drop 1 r)) 111) _ _ (letter-read 111 8 2 AsRead (lit< tt) (lit< tt) (λ z. omega arith) (lit≤ tt) (λ _. tt))
-          (λ _. cond-ind Read (eqb (peek (drop 1 r)) 79) _ _ (letter-read 79 8 2 LowerPrefix (lit< tt) (lit< tt) (λ z. omega arith) (lit≤ tt) (λ z. (lit≤ tt, rw z)))
-          (λ _. cond-ind Read (eqb (peek (drop 1 r)) 98) _ _ (letter-read 98 2 1 AsRead (lit< tt) (lit< tt) (λ z. omega arith) (lit≤ tt) (λ _. tt))
-          (λ _. cond-ind Read (eqb (peek (drop 1 r)) 66) _ _ (letter-read 66 2 1 LowerPrefix (lit< tt) (lit< tt) (λ z. omega arith) (lit≤ tt) (λ z. (lit≤ tt, rw z))) (λ _. bare-read))))))
+          cond-ind Read (eqb (peek (drop 1 r)) (code "x")) _ _ (letter-read (code "x") 16 BAD-HEXADECIMAL AsRead (lit< tt) (lit< tt) (λ z. omega arith) (lit≤ tt) (λ _. tt))
+          (λ _. cond-ind Read (eqb (peek (drop 1 r)) (code "X")) _ _ (letter-read (code "X") 16 BAD-HEXADECIMAL LowerPrefix (lit< tt) (lit< tt) (λ z. omega arith) (lit≤ tt) (λ z. (lit≤ tt, rw z)))
+          (λ _. cond-ind Read (eqb (peek (drop 1 r)) (code "o")) _ _ (letter-read (code "o") 8 BAD-OCTAL AsRead (lit< tt) (lit< tt) (λ z. omega arith) (lit≤ tt) (λ _. tt))
+          (λ _. cond-ind Read (eqb (peek (drop 1 r)) (code "O")) _ _ (letter-read (code "O") 8 BAD-OCTAL LowerPrefix (lit< tt) (lit< tt) (λ z. omega arith) (lit≤ tt) (λ z. (lit≤ tt, rw z)))
+          (λ _. cond-ind Read (eqb (peek (drop 1 r)) (code "b")) _ _ (letter-read (code "b") 2 BAD-BINARY AsRead (lit< tt) (lit< tt) (λ z. omega arith) (lit≤ tt) (λ _. tt))
+          (λ _. cond-ind Read (eqb (peek (drop 1 r)) (code "B")) _ _ (letter-read (code "B") 2 BAD-BINARY LowerPrefix (lit< tt) (lit< tt) (λ z. omega arith) (lit≤ tt) (λ z. (lit≤ tt, rw z))) (λ _. bare-read))))))
 
   pub without-read : Read (withoutI r)
   unfolding withoutI
   without-read =
-      cond-ind Read (eqb (peek r) 46) _ _
-      (λ e. fraction-read 1 (record { plain = plain-one r 46 (lit< tt) (lit< tt) (λ z. omega arith) e; spelled = tt; some = λ _. lit< tt }))
-      (λ e. cond-ind Read (eqb (peek r) 48) _ _ (zero-read e) (λ _. decimal-read e))
+      cond-ind Read (eqb (peek r) (code ".")) _ _
+      (λ e. fraction-read 1 (record { plain = plain-one r (code ".") (lit< tt) (lit< tt) (λ z. omega arith) e; spelled = tt; some = λ _. lit< tt }))
+      (λ e. cond-ind Read (eqb (peek r) (code "0")) _ _ (zero-read e) (λ _. decimal-read e))
 
   number-read : Read (number r)
   unfolding number
@@ -199,11 +200,11 @@ module _ (r : List Char) where
       let x = withoutI r in
       let o = without-read in
       cond-ind Read (eqb (x .kind) ILLEGAL) _ _ (λ _. o)
-      (λ _. cond-ind Read (eqb (peek (drop (x .len) r)) 105) _ _
-      (λ e. (more (x .spelling) (x .len) 1 (o .0) (plain-one (drop (x .len) r) 105 (lit< tt) (lit< tt) (λ z. omega arith) e), tt)) (λ _. o))
+      (λ _. cond-ind Read (eqb (peek (drop (x .len) r)) (code "i")) _ _
+      (λ e. (more (x .spelling) (x .len) 1 (o .0) (plain-one (drop (x .len) r) (code "i") (lit< tt) (lit< tt) (λ z. omega arith) e), tt)) (λ _. o))
 
   -- ---- the laws
-  pub number-ascii : (i : ℕ) → i < number r .len → (getD r i ended .code < 0x80) × (getD r i ended .code ≢ 10)
+  pub number-ascii : (i : ℕ) → i < number r .len → (getD r i ended .code < 0x80) × (getD r i ended .code ≢ code "\n")
   unfolding Plain
   number-ascii i h = let q = number-read .0 .plain i h in (q .1, q .2)
 

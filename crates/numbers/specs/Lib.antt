@@ -1,3 +1,4 @@
 pub mod Run
 pub mod Number
 pub mod Spelling
+pub mod Steps

@@ -1,5 +1,6 @@
 -- Numbers, from the characters that are left: how many are read, kind, error, and how the text differs from what was read.
 use Prim.Native.Nat.{ℕ, _+_}
+use Prim.Native.Char.{code}
 use mathlib.Core.Bool.{false, cond, _&&_, _||_}
 use mathlib.Core.List.{List}
 use lib.Dec.{leb, eqb}
@@ -7,103 +8,103 @@ use lib.ListN.{drop}
 use Rattle.utf8.specs.declared.Char.{Char}
 use Rattle.utf8.specs.Chars.{peek}
 use Rattle.kinds.specs.Kinds.{ILLEGAL, INT, FLOAT, IMAG}
+use Rattle.errors.specs.Numbers.{BAD-BINARY, BAD-OCTAL, BAD-HEXADECIMAL, MISPLACED-UNDERSCORE, BAD-EXPONENT}
 use Rattle.digits.specs.Digit.{isDecimal}
 use Rattle.numbers.specs.declared.Number.{Number}
 use Rattle.numbers.specs.declared.Spelling.{Spelling}
 use Rattle.numbers.specs.declared.Spelling.the-variants.{AsRead, LowerPrefix, OctalPrefix, LowerExponent}
 use Rattle.numbers.specs.Run.{Run, digitRun, strictRun}
 
-pub record Reading : Type 0 where
+pub record Numeral : Type 0 where
   pub kind : ℕ
   pub len : ℕ
   pub error : ℕ
   pub spelling : Spelling
 
 -- a number of the kind, with nothing more read
-abbrev pub good : ℕ → ℕ → Spelling → Reading
+abbrev pub good : ℕ → ℕ → Spelling → Numeral
 good kind len s = record { kind = kind; len = len; error = 0; spelling = s }
 
 -- an error ends the number
-abbrev pub illegal : ℕ → ℕ → Spelling → Reading
+abbrev pub illegal : ℕ → ℕ → Spelling → Numeral
 illegal error len s = record { kind = ILLEGAL; len = len; error = error; spelling = s }
 
 -- n characters before
-abbrev pub after : ℕ → Reading → Reading
+abbrev pub after : ℕ → Numeral → Numeral
 after n x = record { kind = x .kind; len = n + x .len; error = x .error; spelling = x .spelling }
 
--- the digits of an exponent: error 4 for a misplaced underscore, 5 where there is no digit
-abbrev pub exponentDigits : Spelling → Run → Reading
-exponentDigits s d = cond (d .misplaced) (illegal 4 (d .len) s) (cond (eqb (d .len) 0) (illegal 5 0 s) (good FLOAT (d .len) s))
+-- the digits of an exponent
+abbrev pub exponentDigits : Spelling → Run → Numeral
+exponentDigits s d = cond (d .misplaced) (illegal MISPLACED-UNDERSCORE (d .len) s) (cond (eqb (d .len) 0) (illegal BAD-EXPONENT 0 s) (good FLOAT (d .len) s))
 
 -- after the e: a sign, if there is one, and digits
-unfoldable pub exponent : Spelling → List Char → Reading
+unfoldable pub exponent : Spelling → List Char → Numeral
 exponent s r =
-    cond (eqb (peek r) 43 || eqb (peek r) 45) (after 1 (exponentDigits s (strictRun 10 (drop 1 r))))
+    cond (eqb (peek r) (code "+") || eqb (peek r) (code "-")) (after 1 (exponentDigits s (strictRun 10 (drop 1 r))))
     (exponentDigits s (strictRun 10 r))
 
 -- after the digits: an exponent, whose e is written lower case, or the number ends here
-unfoldable pub finish : ℕ → List Char → Reading
+unfoldable pub finish : ℕ → List Char → Numeral
 finish kind r =
-    cond (eqb (peek r) 101) (after 1 (exponent AsRead (drop 1 r)))
-    (cond (eqb (peek r) 69) (after 1 (exponent LowerExponent (drop 1 r))) (good kind 0 AsRead))
+    cond (eqb (peek r) (code "e")) (after 1 (exponent AsRead (drop 1 r)))
+    (cond (eqb (peek r) (code "E")) (after 1 (exponent LowerExponent (drop 1 r))) (good kind 0 AsRead))
 
 -- after the point
-unfoldable pub fraction : List Char → Reading
+unfoldable pub fraction : List Char → Numeral
 fraction r =
-    cond (strictRun 10 r .misplaced) (illegal 4 (strictRun 10 r .len) AsRead)
+    cond (strictRun 10 r .misplaced) (illegal MISPLACED-UNDERSCORE (strictRun 10 r .len) AsRead)
     (after (strictRun 10 r .len) (finish FLOAT (drop (strictRun 10 r .len) r)))
 
 -- after the digits of a decimal number: a point and a fraction, an exponent, or nothing
-unfoldable pub decimalRest : List Char → Reading
-decimalRest r = cond (eqb (peek r) 46) (after 1 (fraction (drop 1 r))) (finish INT r)
+unfoldable pub decimalRest : List Char → Numeral
+decimalRest r = cond (eqb (peek r) (code ".")) (after 1 (fraction (drop 1 r))) (finish INT r)
 
 -- a decimal number
-unfoldable pub decimal : List Char → Reading
+unfoldable pub decimal : List Char → Numeral
 decimal r =
-    cond (digitRun 10 false r .misplaced) (illegal 4 (digitRun 10 false r .len) AsRead)
+    cond (digitRun 10 false r .misplaced) (illegal MISPLACED-UNDERSCORE (digitRun 10 false r .len) AsRead)
     (after (digitRun 10 false r .len) (decimalRest (drop (digitRun 10 false r .len) r)))
 
--- the digits of a prefixed number, and what stands next: a binary or octal number ends before no decimal digit
-abbrev pub prefixedDigits : ℕ → ℕ → Spelling → Run → ℕ → Reading
+-- the digits of a prefixed number, and what stands next: there is a digit, and a binary or octal number ends before no decimal one
+abbrev pub prefixedDigits : ℕ → ℕ → Spelling → Run → ℕ → Numeral
 prefixedDigits base error s d next =
-    cond (d .misplaced) (illegal 4 (d .len) s)
-    (cond (eqb (d .len) 0) (illegal error 0 s)
-    (cond (leb base 8 && isDecimal next) (illegal error (d .len) s) (good INT (d .len) s)))
+    cond (d .misplaced) (illegal MISPLACED-UNDERSCORE (d .len) s)
+    (cond (eqb (d .len) 0 || (leb base 8 && isDecimal next)) (illegal error (d .len) s) (good INT (d .len) s))
 
 -- after a prefix
-unfoldable pub prefixed : ℕ → ℕ → Spelling → List Char → Reading
+unfoldable pub prefixed : ℕ → ℕ → Spelling → List Char → Numeral
 prefixed base error s r = prefixedDigits base error s (digitRun base false r) (peek (drop (digitRun base false r .len) r))
 
 -- a 0 without a prefix: "A 0 followed by a digit is octal"; any other starts a decimal
-unfoldable pub bareZero : List Char → Reading
-bareZero r = cond (isDecimal (peek (drop 1 r))) (after 1 (prefixed 8 2 OctalPrefix (drop 1 r))) (decimal r)
+unfoldable pub bareZero : List Char → Numeral
+bareZero r = cond (isDecimal (peek (drop 1 r))) (after 1 (prefixed 8 BAD-OCTAL OctalPrefix (drop 1 r))) (decimal r)
 
 -- a number that starts with 0, by the character b after it
-abbrev pub zeroBy : ℕ → List Char → Reading
+abbrev pub zeroBy : ℕ → List Char → Numeral
 zeroBy b r =
-    cond (eqb b 120) (after 2 (prefixed 16 3 AsRead (drop 2 r)))
-    (cond (eqb b 88) (after 2 (prefixed 16 3 LowerPrefix (drop 2 r)))
-    (cond (eqb b 111) (after 2 (prefixed 8 2 AsRead (drop 2 r)))
-    (cond (eqb b 79) (after 2 (prefixed 8 2 LowerPrefix (drop 2 r)))
-    (cond (eqb b 98) (after 2 (prefixed 2 1 AsRead (drop 2 r)))
-    (cond (eqb b 66) (after 2 (prefixed 2 1 LowerPrefix (drop 2 r))) (bareZero r))))))
+    cond (eqb b (code "x")) (after 2 (prefixed 16 BAD-HEXADECIMAL AsRead (drop 2 r)))
+    (cond (eqb b (code "X")) (after 2 (prefixed 16 BAD-HEXADECIMAL LowerPrefix (drop 2 r)))
+    (cond (eqb b (code "o")) (after 2 (prefixed 8 BAD-OCTAL AsRead (drop 2 r)))
+    (cond (eqb b (code "O")) (after 2 (prefixed 8 BAD-OCTAL LowerPrefix (drop 2 r)))
+    (cond (eqb b (code "b")) (after 2 (prefixed 2 BAD-BINARY AsRead (drop 2 r)))
+    (cond (eqb b (code "B")) (after 2 (prefixed 2 BAD-BINARY LowerPrefix (drop 2 r))) (bareZero r))))))
 
-unfoldable pub leadingZero : List Char → Reading
+unfoldable pub leadingZero : List Char → Numeral
 leadingZero r = zeroBy (peek (drop 1 r)) r
 
 -- a number but for an i that may follow
-unfoldable pub withoutI : List Char → Reading
-withoutI r = cond (eqb (peek r) 46) (after 1 (fraction (drop 1 r))) (cond (eqb (peek r) 48) (leadingZero r) (decimal r))
+unfoldable pub withoutI : List Char → Numeral
+withoutI r = cond (eqb (peek r) (code ".")) (after 1 (fraction (drop 1 r))) (cond (eqb (peek r) (code "0")) (leadingZero r) (decimal r))
 
 -- "A following i makes INT or FLOAT an IMAG."
-abbrev pub imaginary : Reading → ℕ → Reading
+abbrev pub imaginary : Numeral → ℕ → Numeral
 imaginary x next =
     cond (eqb (x .kind) ILLEGAL) x
-    (cond (eqb next 105) (record { kind = IMAG; len = x .len + 1; error = 0; spelling = x .spelling }) x)
+    (cond (eqb next (code "i")) (record { kind = IMAG; len = x .len + 1; error = 0; spelling = x .spelling }) x)
 
-unfoldable pub number : List Char → Reading
+unfoldable pub number : List Char → Numeral
 number r = imaginary (withoutI r) (peek (drop (withoutI r .len) r))
 
 -- a number that starts at a place, as the code gives it
-abbrev pub numberAt : ℕ → Reading → Number
+abbrev pub numberAt : ℕ → Numeral → Number
 numberAt at x = record { kind = x .kind; end = at + x .len; error = x .error; spelling = x .spelling }

@@ -1,11 +1,11 @@
 -- Runs of digits: "An underscore stands between digits or after a prefix, never doubled, never last."
-use Prim.Native.Nat.{ℕ, suc, _+_}
+use Prim.Native.Nat.{ℕ, suc}
+use Prim.Native.Char.{code}
 use mathlib.Core.Bool.{Bool, true, false, cond}
 use mathlib.Core.List.{List, [], _∷_}
 use lib.Dec.{ltb, eqb}
 use Rattle.utf8.specs.declared.Char.{Char}
 use Rattle.digits.specs.Digit.{digitVal}
-use Rattle.numbers.specs.declared.run.Digits.{Digits}
 
 -- how many characters a run has, and whether an underscore is misplaced where it stopped
 pub record Run : Type 0 where
@@ -25,13 +25,9 @@ unfoldable pub digitRun : ℕ → Bool → List Char → Run
 digitRun base under [] = stop under
 digitRun base under (c ∷ r) =
     cond (ltb (digitVal (c .code)) base) (more (digitRun base false r))
-    (cond (eqb (c .code) 95) (cond under (stop true) (more (digitRun base true r))) (stop under))
+    (cond (eqb (c .code) (code "_")) (cond under (stop true) (more (digitRun base true r))) (stop under))
 
 -- the same where no underscore may stand first
 unfoldable pub strictRun : ℕ → List Char → Run
 strictRun base [] = stop false
-strictRun base (c ∷ r) = cond (eqb (c .code) 95) (stop true) (digitRun base false (c ∷ r))
-
--- a run that starts at a place, as the code gives it
-abbrev pub digitsAt : ℕ → Run → Digits
-digitsAt at d = record { end = at + d .len; misplaced = d .misplaced }
+strictRun base (c ∷ r) = cond (eqb (c .code) (code "_")) (stop true) (digitRun base false (c ∷ r))

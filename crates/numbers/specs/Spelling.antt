@@ -1,5 +1,6 @@
 -- The text of a number: "Prefixes are written lower case in the text, and so is the exponent's e. A 0 followed by a digit is octal, and its text gains an o".
 use Prim.Native.Nat.{ℕ, _+_}
+use Prim.Native.Char.{code}
 use mathlib.Core.Bool.{cond}
 use mathlib.Core.List.{List, [], _∷_, map}
 use lib.Dec.{eqb}
@@ -9,7 +10,7 @@ use Rattle.numbers.specs.declared.Spelling.the-variants.{AsRead, LowerPr
 
 -- a letter in lower case
 abbrev pub lower : ℕ → ℕ
-lower b = cond (between 65 b 90) (b + 32) b
+lower b = cond (between (code "A") b (code "Z")) (b + 32) b
 
 -- the second byte in lower case
 abbrev pub lowerSecond : List ℕ → List ℕ
@@ -20,11 +21,11 @@ lowerSecond (a ∷ b ∷ bs) = a ∷ lower b ∷ bs
 -- an o after the first byte
 abbrev pub gainO : List ℕ → List ℕ
 gainO [] = []
-gainO (a ∷ bs) = a ∷ 111 ∷ bs
+gainO (a ∷ bs) = a ∷ code "o" ∷ bs
 
 -- each E as e
 abbrev pub lowerE : List ℕ → List ℕ
-lowerE bs = map (λ b. cond (eqb b 69) 101 b) bs
+lowerE bs = map (λ b. cond (eqb b (code "E")) (code "e") b) bs
 
 -- the text, from the bytes read
 unfoldable pub numberText : Spelling → List ℕ → List ℕ

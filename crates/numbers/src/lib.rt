@@ -3,13 +3,14 @@ mod run;
 
 ghost use mathlib.Core.Path.{_≡_};
 ghost use Prim.Native.Nat.{_≤_};
-ghost use lib.ListN.{drop, getD};
+ghost use lib.ListN.{drop};
 ghost use mathlib.Core.Bool.{_&&_};
 ghost use lib.Dec.{leb};
 ghost use Rattle.utf8.specs.Chars.{chars, peek};
 ghost use Rattle.digits.specs.Digit.{isDecimal};
 ghost use Rattle.numbers.specs.Number.{numberAt, exponentDigits, exponent, finish, fraction, decimalRest, decimal, prefixed, bareZero, leadingZero, withoutI, number};
 ghost use Rattle.numbers.specs.Run.{strictRun};
+ghost use Rattle.numbers.specs.Steps.{ZeroAt};
 ghost use Rattle.kinds.specs.Kinds.{ILLEGAL};
 
 // How the text of a number differs from what was read.
@@ -60,10 +61,10 @@ fn exponent_digits(src: &[u8], at: usize, spelling: Spelling) -> Number
     let d = run::scan_strict_digits(src, at, 10);
     let end = d.end;
     if d.misplaced {
-        return illegal(4, end, spelling);
+        return illegal(errors::MISPLACED_UNDERSCORE, end, spelling);
     }
     if end == at {
-        return illegal(5, end, spelling);
+        return illegal(errors::BAD_EXPONENT, end, spelling);
     }
     good(kinds::FLOAT, end, spelling)
 }
@@ -73,10 +74,7 @@ fn scan_exponent(src: &[u8], at: usize, spelling: Spelling) -> Number
     ensures { λ r. ⌜ r ≡ numberAt at (exponent spelling (chars (drop at (now (src .entry))))) ⌝ }
 {
     let b = utf8::byte(src, at);
-    if b == 43 {
-        return exponent_digits(src, at + 1, spelling);
-    }
-    if b == 45 {
+    if (b == b'+') | (b == b'-') {
         return exponent_digits(src, at + 1, spelling);
     }
     exponent_digits(src, at, spelling)
@@ -87,10 +85,10 @@ fn finish_number(src: &[u8], at: usize, kind: u8) -> Number
     ensures { λ r. ⌜ r ≡ numberAt at (finish kind (chars (drop at (now (src .entry))))) ⌝ }
 {
     let b = utf8::byte(src, at);
-    if b == 101 {
+    if b == b'e' {
         return scan_exponent(src, at + 1, Spelling::AsRead);
     }
-    if b == 69 {
+    if b == b'E' {
         return scan_exponent(src, at + 1, Spelling::LowerExponent);
     }
     good(kind, at, Spelling::AsRead)
@@ -103,7 +101,7 @@ fn scan_fraction(src: &[u8], at: usize) -> Number
     let d = run::scan_strict_digits(src, at, 10);
     let end = d.end;
     if d.misplaced {
-        return illegal(4, end, Spelling::AsRead);
+        return illegal(errors::MISPLACED_UNDERSCORE, end, Spelling::AsRead);
     }
     finish_number(src, end, kinds::FLOAT)
 }
@@ -112,7 +110,7 @@ fn scan_fraction(src: &[u8], at: usize) -> Number
 fn decimal_rest(src: &[u8], at: usize) -> Number
     ensures { λ r. ⌜ r ≡ numberAt at (decimalRest (chars (drop at (now (src .entry))))) ⌝ }
 {
-    if utf8::byte(src, at) == 46 {
+    if utf8::byte(src, at) == b'.' {
         return scan_fraction(src, at + 1);
     }
     finish_number(src, at, kinds::INT)
@@ -124,7 +122,7 @@ fn scan_decimal(src: &[u8], at: usize) -> Number
     let d = run::scan_digits(src, at, 10);
     let end = d.end;
     if d.misplaced {
-        return illegal(4, end, Spelling::AsRead);
+        return illegal(errors::MISPLACED_UNDERSCORE, end, Spelling::AsRead);
     }
     decimal_rest(src, end)
 }
@@ -147,12 +145,9 @@ fn scan_prefixed(src: &[u8], at: usize, base: u8, error: u8, spelling: Spelling)
     let d = run::scan_digits(src, at, base);
     let end = d.end;
     if d.misplaced {
-        return illegal(4, end, spelling);
+        return illegal(errors::MISPLACED_UNDERSCORE, end, spelling);
     }
-    if end == at {
-        return illegal(error, end, spelling);
-    }
-    if goes_on(src, end, base) {
+    if (end == at) | goes_on(src, end, base) {
         return illegal(error, end, spelling);
     }
     good(kinds::INT, end, spelling)
@@ -160,28 +155,34 @@ fn scan_prefixed(src: &[u8], at: usize, base: u8, error: u8, spelling: Spelling)
 
 // A 0 without a prefix: octal before a digit, else decimal.
 fn scan_bare_zero(src: &[u8], at: usize) -> Number
-    requires { ⌜ getD (now src) at 0 ≡ 48 ⌝ }
+    requires { ⌜ ZeroAt (now src) at ⌝ }
     ensures { λ r. ⌜ r ≡ numberAt at (bareZero (chars (drop at (now (src .entry))))) ⌝ }
 {
     if digits::is_decimal(utf8::byte(src, at + 1)) {
-        return scan_prefixed(src, at + 1, 8, 2, Spelling::OctalPrefix);
+        return scan_prefixed(src, at + 1, 8, errors::BAD_OCTAL, Spelling::OctalPrefix);
     }
     scan_decimal(src, at)
 }
 
 // A number that starts with 0, by the byte after it.
 fn scan_zero(src: &[u8], at: usize) -> Number
-    requires { ⌜ getD (now src) at 0 ≡ 48 ⌝ }
+    requires { ⌜ ZeroAt (now src) at ⌝ }
     ensures { λ r. ⌜ r ≡ numberAt at (leadingZero (chars (drop at (now (src .entry))))) ⌝ }
 {
     let b = utf8::byte(src, at + 1);
     match b {
-        120 => scan_prefixed(src, at + 2, 16, 3, Spelling::AsRead),
-        88 => scan_prefixed(src, at + 2, 16, 3, Spelling::LowerPrefix),
-        111 => scan_prefixed(src, at + 2, 8, 2, Spelling::AsRead),
-        79 => scan_prefixed(src, at + 2, 8, 2, Spelling::LowerPrefix),
-        98 => scan_prefixed(src, at + 2, 2, 1, Spelling::AsRead),
-        66 => scan_prefixed(src, at + 2, 2, 1, Spelling::LowerPrefix),
+        b'x' => scan_prefixed(src, at + 2, 16, errors::BAD_HEXADECIMAL, Spelling::AsRead),
+        b'X' => scan_prefixed(
+            src,
+            at + 2,
+            16,
+            errors::BAD_HEXADECIMAL,
+            Spelling::LowerPrefix,
+        ),
+        b'o' => scan_prefixed(src, at + 2, 8, errors::BAD_OCTAL, Spelling::AsRead),
+        b'O' => scan_prefixed(src, at + 2, 8, errors::BAD_OCTAL, Spelling::LowerPrefix),
+        b'b' => scan_prefixed(src, at + 2, 2, errors::BAD_BINARY, Spelling::AsRead),
+        b'B' => scan_prefixed(src, at + 2, 2, errors::BAD_BINARY, Spelling::LowerPrefix),
         _ => scan_bare_zero(src, at),
     }
 }
@@ -190,10 +191,10 @@ fn scan_number_without_i(src: &[u8], at: usize) -> Number
     ensures { λ r. ⌜ r ≡ numberAt at (withoutI (chars (drop at (now (src .entry))))) ⌝ }
 {
     let b = utf8::byte(src, at);
-    if b == 46 {
+    if b == b'.' {
         return scan_fraction(src, at + 1);
     }
-    if b == 48 {
+    if b == b'0' {
         return scan_zero(src, at);
     }
     scan_decimal(src, at)
@@ -209,7 +210,7 @@ pub fn scan_number(src: &[u8], at: usize) -> Number
     if n.kind == kinds::ILLEGAL {
         return n;
     }
-    if utf8::byte(src, end) == 105 {
+    if utf8::byte(src, end) == b'i' {
         return good(kinds::IMAG, end + 1, spelling);
     }
     n

@@ -4,7 +4,8 @@ ghost use mathlib.Core.Bool.{false};
 ghost use Prim.Native.Nat.{_≤_};
 ghost use lib.ListN.{drop};
 ghost use Rattle.utf8.specs.Chars.{chars};
-ghost use Rattle.numbers.specs.Run.{digitsAt, digitRun, strictRun};
+ghost use Rattle.numbers.specs.Run.{digitRun, strictRun};
+ghost use Rattle.numbers.specs.Steps.{digitsAt};
 
 // A run of digits and underscores: the place after it, and whether an underscore is misplaced where it stopped.
 pub(crate) struct Digits {
@@ -25,7 +26,7 @@ pub(crate) fn scan_digits(src: &[u8], at: usize, base: u8) -> Digits
             under = false;
             p += 1;
         } else {
-            if b != 95 {
+            if b != b'_' {
                 return Digits {
                     end: p,
                     misplaced: under,
@@ -52,7 +53,7 @@ pub(crate) fn scan_strict_digits(src: &[u8], at: usize, base: u8) -> Digits
     requires { ⌜ base ≤ 16 ⌝ }
     ensures { λ r. ⌜ r ≡ digitsAt at (strictRun base (chars (drop at (now (src .entry))))) ⌝ }
 {
-    if utf8::byte(src, at) == 95 {
+    if utf8::byte(src, at) == b'_' {
         return Digits {
             end: at,
             misplaced: true,

@@ -1,5 +1,6 @@
 -- Laws of the longest operator: its bounds, more text behind a line feed, when there is none, and its kind.
 use Prim.Native.Nat.{ℕ, suc, _≤_, _<_}
+use Prim.Native.Char.{code}
 use mathlib.Core.Path.{_≡_, refl}
 use mathlib.Core.Bool.{Bool, true, false, not, _&&_, _||_, false≢true}
 use mathlib.Core.List.{List, [], _∷_, _++_}
@@ -41,16 +42,16 @@ operator-bound r = longest-ind (λ x. x .len ≤ length r) (λ _. true) r (omega
 
 -- ---- in a text that ends in a line feed
 abbrev noFeed : List ℕ → Bool
-noFeed = each (λ x. not (eqb x 10))
+noFeed = each (λ x. not (eqb x (code "\n")))
 
 begins-local : (xs : List ℕ) (r t : List Char) → T (noFeed xs) → Ends r → (begins xs (r ++ t) ≡ begins xs r) × (begins xs r ≡ true → length xs < length r)
 unfolding begins
 begins-local [] r t n h = (refl, λ _. ends-some r h)
 begins-local (x ∷ xs) [] t n h = absurd h
-begins-local (x ∷ xs) (c ∷ r) t n h = go (eqb (c .code) x) refl (begins-local xs r t (and-right (not (eqb x 10)) (noFeed xs) n))
+begins-local (x ∷ xs) (c ∷ r) t n h = go (eqb (c .code) x) refl (begins-local xs r t (and-right (not (eqb x (code "\n"))) (noFeed xs) n))
   where
-    feed : eqb (c .code) x ≡ true → c .code ≡ 10 → ⊥
-    feed e z = let q : T (not (eqb x 10)) = and-left (not (eqb x 10)) (noFeed xs) n in rw (← eqb-true (c .code) x e, z) at q
+    feed : eqb (c .code) x ≡ true → c .code ≡ code "\n" → ⊥
+    feed e z = let q : T (not (eqb x (code "\n"))) = and-left (not (eqb x (code "\n"))) (noFeed xs) n in rw (← eqb-true (c .code) x e, z) at q
 
     go : (y : Bool) → eqb (c .code) x ≡ y → (Ends r → (begins xs (r ++ t) ≡ begins xs r) × (begins xs r ≡ true → length xs < length r))
         → (y && begins xs (r ++ t) ≡ y && begins xs r) × (y && begins xs r ≡ true → suc (length xs) < suc (length r))

@@ -1,12 +1,15 @@
 -- The operator at a place by the byte there, the rows of the table that start with it, and the next bytes.
 use Prim.Native.Nat.{ℕ, _+_, _≤_}
 use mathlib.Core.Path.{_≡_, refl, sym, ap, _∙_}
+use Prim.Native.Char.{code}
 use mathlib.Core.Bool.{Bool, true, false, cond, _&&_, _||_, false≢true, and-true}
 use mathlib.Core.List.{List, [], _∷_}
+use mathlib.Core.Logic.{⊎-elim}
 use lib.Dec.{T, eqb}
 use lib.ListN.{length, getD, drop}
-use borrow.Author.Tests.{eq-eqb, ne-eqb}
-use Rattle.basics.proofs.Choice.{true-of}
+use borrow.Author.Tests.{eq-eqb, ne-eqb, eqb-true}
+use Rattle.basics.specs.Spelling.{spelled}
+use Rattle.basics.proofs.Choice.{true-of, either}
 use Rattle.basics.proofs.Every.{each, each-ind}
 use Rattle.utf8.specs.Chars.{chars}
 use Rattle.utf8.proofs.First.{chars-end}
@@ -14,7 +17,7 @@ use Rattle.kinds.specs.Kinds.{LSS, LEQ, SHL, SHL-ASSIGN, ARROW, AND, AND-ASSIGN
 use Rattle.kinds.specs.Table.{Row, operators}
 use Rattle.kinds.specs.Table as table
 use Rattle.operators.specs.Longest.{begins, op, none, longest, operatorOf}
-use Rattle.operators.specs.Second.{lessBy, greaterBy, andBy, periodBy}
+use Rattle.operators.specs.Steps.{switch2, switch3, switch4, lessBy, greaterBy, andBy, periodBy}
 use Rattle.operators.proofs.Leading.{best, starts, leads, among, best-among, table-bytes}
 
 -- a row of the table, by its codes
@@ -45,8 +48,8 @@ module _ (f : List ℕ → Bool) where
   pick3 k l m a x v false true e g h = rw (e, g, h)
   pick3 k l m a x v false false e g h = rw (e, g, h)
 
-  pick4 : (k l m n a x : ℕ) (y z w : Bool) → f (a ∷ []) ≡ true → f (a ∷ x ∷ []) ≡ y → f (a ∷ 61 ∷ []) ≡ z → f (a ∷ x ∷ 61 ∷ []) ≡ y && w
-      → best f (row m (a ∷ x ∷ []) ∷ row n (a ∷ x ∷ 61 ∷ []) ∷ row k (a ∷ []) ∷ row l (a ∷ 61 ∷ []) ∷ []) ≡ cond y (cond w (op n 3) (op m 2)) (cond z (op l 2) (op k 1))
+  pick4 : (k l m n a x : ℕ) (y z w : Bool) → f (a ∷ []) ≡ true → f (a ∷ x ∷ []) ≡ y → f (a ∷ code "=" ∷ []) ≡ z → f (a ∷ x ∷ code "=" ∷ []) ≡ y && w
+      → best f (row m (a ∷ x ∷ []) ∷ row n (a ∷ x ∷ code "=" ∷ []) ∷ row k (a ∷ []) ∷ row l (a ∷ code "=" ∷ []) ∷ []) ≡ cond y (cond w (op n 3) (op m 2)) (cond z (op l 2) (op k 1))
   unfolding best
   pick4 k l m n a x true true true e g h i = rw (e, g, h, i)
   pick4 k l m n a x true true false e g h i = rw (e, g, h, i)
@@ -55,8 +58,8 @@ module _ (f : List ℕ → Bool) where
   pick4 k l m n a x false true w e g h i = rw (e, g, h, i)
   pick4 k l m n a x false false w e g h i = rw (e, g, h, i)
 
-  pick-less : (k l m n o a x v : ℕ) (y z w u : Bool) → f (a ∷ []) ≡ true → f (a ∷ x ∷ []) ≡ y → f (a ∷ 61 ∷ []) ≡ z → f (a ∷ x ∷ 61 ∷ []) ≡ y && w → f (a ∷ v ∷ []) ≡ u
-      → best f (row m (a ∷ x ∷ []) ∷ row n (a ∷ x ∷ 61 ∷ []) ∷ row o (a ∷ v ∷ []) ∷ row k (a ∷ []) ∷ row l (a ∷ 61 ∷ []) ∷ [])
+  pick-less : (k l m n o a x v : ℕ) (y z w u : Bool) → f (a ∷ []) ≡ true → f (a ∷ x ∷ []) ≡ y → f (a ∷ code "=" ∷ []) ≡ z → f (a ∷ x ∷ code "=" ∷ []) ≡ y && w → f (a ∷ v ∷ []) ≡ u
+      → best f (row m (a ∷ x ∷ []) ∷ row n (a ∷ x ∷ code "=" ∷ []) ∷ row o (a ∷ v ∷ []) ∷ row k (a ∷ []) ∷ row l (a ∷ code "=" ∷ []) ∷ [])
       ≡ cond y (cond w (op n 3) (op m 2)) (cond u (op o 2) (cond z (op l 2) (op k 1)))
   unfolding best
   pick-less k l m n o a x v true true true true e g h i j = rw (e, g, h, i, j)
@@ -67,17 +70,13 @@ module _ (f : List ℕ → Bool) where
   pick-less k l m n o a x v true false true false e g h i j = rw (e, g, h, i, j)
   pick-less k l m n o a x v true false false true e g h i j = rw (e, g, h, i, j)
   pick-less k l m n o a x v true false false false e g h i j = rw (e, g, h, i, j)
-  pick-less k l m n o a x v false true true true e g h i j = rw (e, g, h, i, j)
-  pick-less k l m n o a x v false true true false e g h i j = rw (e, g, h, i, j)
-  pick-less k l m n o a x v false true false true e g h i j = rw (e, g, h, i, j)
-  pick-less k l m n o a x v false true false false e g h i j = rw (e, g, h, i, j)
-  pick-less k l m n o a x v false false true true e g h i j = rw (e, g, h, i, j)
-  pick-less k l m n o a x v false false true false e g h i j = rw (e, g, h, i, j)
-  pick-less k l m n o a x v false false false true e g h i j = rw (e, g, h, i, j)
-  pick-less k l m n o a x v false false false false e g h i j = rw (e, g, h, i, j)
+  pick-less k l m n o a x v false true w true e g h i j = rw (e, g, h, i, j)
+  pick-less k l m n o a x v false true w false e g h i j = rw (e, g, h, i, j)
+  pick-less k l m n o a x v false false w true e g h i j = rw (e, g, h, i, j)
+  pick-less k l m n o a x v false false w false e g h i j = rw (e, g, h, i, j)
 
-  pick-and : (k l m n o a x v : ℕ) (y z w u : Bool) → f (a ∷ []) ≡ true → f (a ∷ x ∷ []) ≡ y → f (a ∷ 61 ∷ []) ≡ z → f (a ∷ x ∷ 61 ∷ []) ≡ y && w → f (a ∷ v ∷ []) ≡ u
-      → best f (row k (a ∷ []) ∷ row m (a ∷ x ∷ []) ∷ row l (a ∷ 61 ∷ []) ∷ row n (a ∷ x ∷ 61 ∷ []) ∷ row o (a ∷ v ∷ []) ∷ [])
+  pick-and : (k l m n o a x v : ℕ) (y z w u : Bool) → f (a ∷ []) ≡ true → f (a ∷ x ∷ []) ≡ y → f (a ∷ code "=" ∷ []) ≡ z → f (a ∷ x ∷ code "=" ∷ []) ≡ y && w → f (a ∷ v ∷ []) ≡ u
+      → best f (row k (a ∷ []) ∷ row m (a ∷ x ∷ []) ∷ row l (a ∷ code "=" ∷ []) ∷ row n (a ∷ x ∷ code "=" ∷ []) ∷ row o (a ∷ v ∷ []) ∷ [])
       ≡ cond y (cond w (op n 3) (op m 2)) (cond z (op l 2) (cond u (op o 2) (op k 1)))
   unfolding best
   pick-and k l m n o a x v true true true true e g h i j = rw (e, g, h, i, j)
@@ -88,14 +87,10 @@ module _ (f : List ℕ → Bool) where
   pick-and k l m n o a x v true false true false e g h i j = rw (e, g, h, i, j)
   pick-and k l m n o a x v true false false true e g h i j = rw (e, g, h, i, j)
   pick-and k l m n o a x v true false false false e g h i j = rw (e, g, h, i, j)
-  pick-and k l m n o a x v false true true true e g h i j = rw (e, g, h, i, j)
-  pick-and k l m n o a x v false true true false e g h i j = rw (e, g, h, i, j)
-  pick-and k l m n o a x v false true false true e g h i j = rw (e, g, h, i, j)
-  pick-and k l m n o a x v false true false false e g h i j = rw (e, g, h, i, j)
-  pick-and k l m n o a x v false false true true e g h i j = rw (e, g, h, i, j)
-  pick-and k l m n o a x v false false true false e g h i j = rw (e, g, h, i, j)
-  pick-and k l m n o a x v false false false true e g h i j = rw (e, g, h, i, j)
-  pick-and k l m n o a x v false false false false e g h i j = rw (e, g, h, i, j)
+  pick-and k l m n o a x v false true w true e g h i j = rw (e, g, h, i, j)
+  pick-and k l m n o a x v false true w false e g h i j = rw (e, g, h, i, j)
+  pick-and k l m n o a x v false false w true e g h i j = rw (e, g, h, i, j)
+  pick-and k l m n o a x v false false w false e g h i j = rw (e, g, h, i, j)
 
   pick-dots : (k l a x v : ℕ) (y : Bool) → f (a ∷ []) ≡ true → f (a ∷ x ∷ v ∷ []) ≡ y → best f (row l (a ∷ x ∷ v ∷ []) ∷ row k (a ∷ []) ∷ []) ≡ cond y (op l 3) (op k 1)
   unfolding best
@@ -120,46 +115,52 @@ module _ (s : List ℕ) (p a : ℕ) (e : getD s p 0 ≡ a) where
   pub one-is : (k : ℕ) → among a operators ≡ row k (a ∷ []) ∷ [] → op k 1 ≡ operatorOf (chars (drop p s))
   one-is k w = sym (first-rows _ w ∙ pick1 (λ n. starts n s p) k a starts-one)
 
-  pub switch2-is : (k l : ℕ) → among a operators ≡ row k (a ∷ []) ∷ row l (a ∷ 61 ∷ []) ∷ []
-      → cond (eqb (getD s (p + 1) 0) 61) (op l 2) (op k 1) ≡ operatorOf (chars (drop p s))
-  switch2-is k l w = sym (first-rows _ w ∙ pick2 (λ n. starts n s p) k l a 61 _ starts-one (starts-two 61))
+  pub switch2-is : (k l : ℕ) → among a operators ≡ row k (a ∷ []) ∷ row l (a ∷ (code "=") ∷ []) ∷ []
+      → switch2 (getD s (p + 1) 0) k l ≡ operatorOf (chars (drop p s))
+  switch2-is k l w = sym (first-rows _ w ∙ pick2 (λ n. starts n s p) k l a (code "=") _ starts-one (starts-two (code "=")))
 
-  pub switch2-last-is : (k l : ℕ) → among a operators ≡ row l (a ∷ 61 ∷ []) ∷ row k (a ∷ []) ∷ []
-      → cond (eqb (getD s (p + 1) 0) 61) (op l 2) (op k 1) ≡ operatorOf (chars (drop p s))
-  switch2-last-is k l w = sym (first-rows _ w ∙ pick2-last (λ n. starts n s p) k l a 61 _ starts-one (starts-two 61))
+  pub switch2-last-is : (k l : ℕ) → among a operators ≡ row l (a ∷ (code "=") ∷ []) ∷ row k (a ∷ []) ∷ []
+      → switch2 (getD s (p + 1) 0) k l ≡ operatorOf (chars (drop p s))
+  switch2-last-is k l w = sym (first-rows _ w ∙ pick2-last (λ n. starts n s p) k l a (code "=") _ starts-one (starts-two (code "=")))
 
-  pub switch3-is : (k l m x : ℕ) → among a operators ≡ row k (a ∷ []) ∷ row l (a ∷ 61 ∷ []) ∷ row m (a ∷ x ∷ []) ∷ []
-      → cond (eqb (getD s (p + 1) 0) 61) (op l 2) (cond (eqb (getD s (p + 1) 0) x) (op m 2) (op k 1)) ≡ operatorOf (chars (drop p s))
-  switch3-is k l m x w = sym (first-rows _ w ∙ pick3 (λ n. starts n s p) k l m a 61 x _ _ starts-one (starts-two 61) (starts-two x))
+  pub switch3-is : (k l m x : ℕ) → among a operators ≡ row k (a ∷ []) ∷ row l (a ∷ (code "=") ∷ []) ∷ row m (a ∷ x ∷ []) ∷ []
+      → switch3 (getD s (p + 1) 0) k l x m ≡ operatorOf (chars (drop p s))
+  switch3-is k l m x w = sym (first-rows _ w ∙ pick3 (λ n. starts n s p) k l m a (code "=") x _ _ starts-one (starts-two (code "=")) (starts-two x))
 
 nothing : none ≡ longest operators []
 unfolding operators longest begins
 nothing = refl
 
+-- two tests of a number change places
+swap : {A : Type 0} (u v w : A) (b x y : ℕ) → eqb x y ≡ false → cond (eqb b x) u (cond (eqb b y) v w) ≡ cond (eqb b y) v (cond (eqb b x) u w)
+swap u v w b x y n =
+    ⊎-elim (λ (e : eqb b x ≡ true). let f : eqb b y ≡ false = rw (eqb-true b x e) n in rw (e, f)) (λ (e : eqb b x ≡ false). rw e) (either (eqb b x))
+
 -- the four first bytes with rows of three codes
 module _ (s : List ℕ) (p : ℕ) where
-  pub less-is : getD s p 0 ≡ 60 → lessBy (getD s (p + 1) 0) (getD s (p + 1 + 1) 0) ≡ operatorOf (chars (drop p s))
+  pub less-is : getD s p 0 ≡ code "<" → lessBy (getD s (p + 1) 0) (getD s (p + 1 + 1) 0) ≡ operatorOf (chars (drop p s))
   unfolding operators
   less-is e =
-      sym (first-rows s p 60 e _ refl ∙ pick-less (λ n. starts n s p) LSS LEQ SHL SHL-ASSIGN ARROW 60 60 45 _ _ _ _
-      (starts-one s p 60 e) (starts-two s p 60 e 60) (starts-two s p 60 e 61) (starts-three s p 60 e 60 61) (starts-two s p 60 e 45))
+      ap (switch4 (getD s (p + 1) 0) (getD s (p + 1 + 1) 0) (code "<") SHL SHL-ASSIGN) (swap _ _ _ (getD s (p + 1) 0) (code "=") (code "-") refl)
+      ∙ sym (first-rows s p (code "<") e _ refl ∙ pick-less (λ n. starts n s p) LSS LEQ SHL SHL-ASSIGN ARROW (code "<") (code "<") (code "-") _ _ _ _
+      (starts-one s p (code "<") e) (starts-two s p (code "<") e (code "<")) (starts-two s p (code "<") e (code "=")) (starts-three s p (code "<") e (code "<") (code "=")) (starts-two s p (code "<") e (code "-")))
 
-  pub greater-is : getD s p 0 ≡ 62 → greaterBy (getD s (p + 1) 0) (getD s (p + 1 + 1) 0) ≡ operatorOf (chars (drop p s))
+  pub greater-is : getD s p 0 ≡ code ">" → greaterBy (getD s (p + 1) 0) (getD s (p + 1 + 1) 0) ≡ operatorOf (chars (drop p s))
   unfolding operators
   greater-is e =
-      sym (first-rows s p 62 e _ refl ∙ pick4 (λ n. starts n s p) GTR GEQ SHR SHR-ASSIGN 62 62 _ _ _
-      (starts-one s p 62 e) (starts-two s p 62 e 62) (starts-two s p 62 e 61) (starts-three s p 62 e 62 61))
+      sym (first-rows s p (code ">") e _ refl ∙ pick4 (λ n. starts n s p) GTR GEQ SHR SHR-ASSIGN (code ">") (code ">") _ _ _
+      (starts-one s p (code ">") e) (starts-two s p (code ">") e (code ">")) (starts-two s p (code ">") e (code "=")) (starts-three s p (code ">") e (code ">") (code "=")))
 
-  pub and-is : getD s p 0 ≡ 38 → andBy (getD s (p + 1) 0) (getD s (p + 1 + 1) 0) ≡ operatorOf (chars (drop p s))
+  pub and-is : getD s p 0 ≡ code "&" → andBy (getD s (p + 1) 0) (getD s (p + 1 + 1) 0) ≡ operatorOf (chars (drop p s))
   unfolding operators
   and-is e =
-      sym (first-rows s p 38 e _ refl ∙ pick-and (λ n. starts n s p) AND AND-ASSIGN AND-NOT AND-NOT-ASSIGN LAND 38 94 38 _ _ _ _
-      (starts-one s p 38 e) (starts-two s p 38 e 94) (starts-two s p 38 e 61) (starts-three s p 38 e 94 61) (starts-two s p 38 e 38))
+      sym (first-rows s p (code "&") e _ refl ∙ pick-and (λ n. starts n s p) AND AND-ASSIGN AND-NOT AND-NOT-ASSIGN LAND (code "&") (code "^") (code "&") _ _ _ _
+      (starts-one s p (code "&") e) (starts-two s p (code "&") e (code "^")) (starts-two s p (code "&") e (code "=")) (starts-three s p (code "&") e (code "^") (code "=")) (starts-two s p (code "&") e (code "&")))
 
-  pub period-is : getD s p 0 ≡ 46 → periodBy (getD s (p + 1) 0) (getD s (p + 1 + 1) 0) ≡ operatorOf (chars (drop p s))
+  pub period-is : getD s p 0 ≡ code "." → periodBy (getD s (p + 1) 0) (getD s (p + 1 + 1) 0) ≡ operatorOf (chars (drop p s))
   unfolding operators
   period-is e =
-      sym (first-rows s p 46 e _ refl ∙ pick-dots (λ n. starts n s p) PERIOD ELLIPSIS 46 46 46 _ (starts-one s p 46 e) (starts-three s p 46 e 46 46))
+      sym (first-rows s p (code ".") e _ refl ∙ pick-dots (λ n. starts n s p) PERIOD ELLIPSIS (code ".") (code ".") (code ".") _ (starts-one s p (code ".") e) (starts-three s p (code ".") e (code ".") (code ".")))
 
   pub end-is : length s ≤ p → none ≡ operatorOf (chars (drop p s))
   end-is h = nothing ∙ ap (longest operators) (sym (chars-end s p h))
@@ -191,7 +192,7 @@ no-rows a ks n = each-ind (λ row. listed ks (row .name)) (λ rows. among a rows
 
 -- the first codes of the table, the code's last arm first
 abbrev pub firsts : List ℕ
-firsts = 59 ∷ 125 ∷ 93 ∷ 41 ∷ 44 ∷ 123 ∷ 91 ∷ 40 ∷ 46 ∷ 38 ∷ 62 ∷ 60 ∷ 58 ∷ 61 ∷ 33 ∷ 94 ∷ 37 ∷ 47 ∷ 42 ∷ 124 ∷ 45 ∷ 43 ∷ []
+firsts = spelled ";}]),{[(.&><:=!^%/*|-+"
 
 pub none-is : (s : List ℕ) (p : ℕ) → NotIn (getD s p 0) firsts → none ≡ operatorOf (chars (drop p s))
 unfolding operators best

@@ -1,12 +1,9 @@
 // Operators and delimiters: the longest one of the table of spellings.
 ghost use mathlib.Core.Path.{_≡_};
-ghost use mathlib.Core.Bool.{cond};
-ghost use lib.Dec.{eqb};
-ghost use lib.ListN.{drop, getD};
-ghost use Prim.Native.Nat.{_+_};
+ghost use lib.ListN.{drop};
 ghost use Rattle.utf8.specs.Chars.{chars};
 ghost use Rattle.operators.specs.Longest.{op, operatorOf};
-ghost use Rattle.operators.specs.Second.{lessBy, greaterBy, andBy, periodBy};
+ghost use Rattle.operators.specs.Steps.{switch2, switch3, switch4, lessBy, greaterBy, andBy, periodBy};
 
 // An operator: its kind, and of how many characters it is.
 pub struct Operator {
@@ -20,11 +17,11 @@ fn op(kind: u8, len: usize) -> Operator
     Operator { kind, len }
 }
 
-// The second byte of an operator: = or nothing.
+// The second byte b of an operator: = or nothing.
 fn scan_switch2(b: u8, one: u8, assign: u8) -> Operator
-    ensures { λ r. ⌜ r ≡ cond (eqb b 61) (op assign 2) (op one 1) ⌝ }
+    ensures { λ r. ⌜ r ≡ switch2 b one assign ⌝ }
 {
-    if b == 61 {
+    if b == b'=' {
         return op(assign, 2);
     }
     op(one, 1)
@@ -32,9 +29,9 @@ fn scan_switch2(b: u8, one: u8, assign: u8) -> Operator
 
 // The same, where another byte ch may stand there.
 fn scan_switch3(b: u8, one: u8, assign: u8, ch: u8, two: u8) -> Operator
-    ensures { λ r. ⌜ r ≡ cond (eqb b 61) (op assign 2) (cond (eqb b ch) (op two 2) (op one 1)) ⌝ }
+    ensures { λ r. ⌜ r ≡ switch3 b one assign ch two ⌝ }
 {
-    if b == 61 {
+    if b == b'=' {
         return op(assign, 2);
     }
     if b == ch {
@@ -43,64 +40,48 @@ fn scan_switch3(b: u8, one: u8, assign: u8, ch: u8, two: u8) -> Operator
     op(one, 1)
 }
 
-// The third byte of an operator: = or nothing.
-fn scan_third(c: u8, two: u8, assign: u8) -> Operator
-    ensures { λ r. ⌜ r ≡ cond (eqb c 61) (op assign 3) (op two 2) ⌝ }
+// Where the second byte is ch, a third byte c may follow: = or nothing. Else the operator is another.
+fn scan_switch4(b: u8, c: u8, ch: u8, two: u8, assign: u8, other: Operator) -> Operator
+    ensures { λ r. ⌜ r ≡ switch4 b c ch two assign other ⌝ }
 {
-    if c == 61 {
+    if b != ch {
+        return other;
+    }
+    if c == b'=' {
         return op(assign, 3);
     }
     op(two, 2)
 }
 
-// After a <, from the place of the second byte on.
-fn scan_less(src: &[u8], at: usize) -> Operator
-    ensures { λ r. ⌜ r ≡ lessBy (getD (now (src .entry)) at 0) (getD (now (src .entry)) (at + 1) 0) ⌝ }
+fn scan_less(b: u8, c: u8) -> Operator
+    ensures { λ r. ⌜ r ≡ lessBy b c ⌝ }
 {
-    let b = utf8::byte(src, at);
-    if b == 60 {
-        return scan_third(utf8::byte(src, at + 1), kinds::SHL, kinds::SHL_ASSIGN);
-    }
-    if b == 45 {
-        return op(kinds::ARROW, 2);
-    }
-    scan_switch2(b, kinds::LSS, kinds::LEQ)
+    let other = scan_switch3(b, kinds::LSS, kinds::LEQ, b'-', kinds::ARROW);
+    scan_switch4(b, c, b'<', kinds::SHL, kinds::SHL_ASSIGN, other)
 }
 
-// After a >.
-fn scan_greater(src: &[u8], at: usize) -> Operator
-    ensures { λ r. ⌜ r ≡ greaterBy (getD (now (src .entry)) at 0) (getD (now (src .entry)) (at + 1) 0) ⌝ }
+fn scan_greater(b: u8, c: u8) -> Operator
+    ensures { λ r. ⌜ r ≡ greaterBy b c ⌝ }
 {
-    let b = utf8::byte(src, at);
-    if b == 62 {
-        return scan_third(utf8::byte(src, at + 1), kinds::SHR, kinds::SHR_ASSIGN);
-    }
-    scan_switch2(b, kinds::GTR, kinds::GEQ)
+    let other = scan_switch2(b, kinds::GTR, kinds::GEQ);
+    scan_switch4(b, c, b'>', kinds::SHR, kinds::SHR_ASSIGN, other)
 }
 
-// After a &.
-fn scan_and(src: &[u8], at: usize) -> Operator
-    ensures { λ r. ⌜ r ≡ andBy (getD (now (src .entry)) at 0) (getD (now (src .entry)) (at + 1) 0) ⌝ }
+fn scan_and(b: u8, c: u8) -> Operator
+    ensures { λ r. ⌜ r ≡ andBy b c ⌝ }
 {
-    let b = utf8::byte(src, at);
-    if b == 94 {
-        return scan_third(
-            utf8::byte(src, at + 1),
-            kinds::AND_NOT,
-            kinds::AND_NOT_ASSIGN,
-        );
-    }
-    scan_switch3(b, kinds::AND, kinds::AND_ASSIGN, 38, kinds::LAND)
+    let other = scan_switch3(b, kinds::AND, kinds::AND_ASSIGN, b'&', kinds::LAND);
+    scan_switch4(b, c, b'^', kinds::AND_NOT, kinds::AND_NOT_ASSIGN, other)
 }
 
 // After a point: two more of them or none.
-fn scan_period(src: &[u8], at: usize) -> Operator
-    ensures { λ r. ⌜ r ≡ periodBy (getD (now (src .entry)) at 0) (getD (now (src .entry)) (at + 1) 0) ⌝ }
+fn scan_period(b: u8, c: u8) -> Operator
+    ensures { λ r. ⌜ r ≡ periodBy b c ⌝ }
 {
-    if utf8::byte(src, at) != 46 {
+    if b != b'.' {
         return op(kinds::PERIOD, 1);
     }
-    if utf8::byte(src, at + 1) != 46 {
+    if c != b'.' {
         return op(kinds::PERIOD, 1);
     }
     op(kinds::ELLIPSIS, 3)
@@ -114,30 +95,32 @@ pub fn scan_operator(src: &[u8], at: usize) -> Operator
         return op(kinds::ILLEGAL, 0);
     }
     let a = src[at];
-    let b = utf8::byte(src, at + 1);
+    let next = at + 1;
+    let b = utf8::byte(src, next);
+    let c = utf8::byte(src, next + 1);
     match a {
-        43 => scan_switch3(b, kinds::ADD, kinds::ADD_ASSIGN, 43, kinds::INC),
-        45 => scan_switch3(b, kinds::SUB, kinds::SUB_ASSIGN, 45, kinds::DEC),
-        124 => scan_switch3(b, kinds::OR, kinds::OR_ASSIGN, 124, kinds::LOR),
-        42 => scan_switch2(b, kinds::MUL, kinds::MUL_ASSIGN),
-        47 => scan_switch2(b, kinds::QUO, kinds::QUO_ASSIGN),
-        37 => scan_switch2(b, kinds::REM, kinds::REM_ASSIGN),
-        94 => scan_switch2(b, kinds::XOR, kinds::XOR_ASSIGN),
-        33 => scan_switch2(b, kinds::NOT, kinds::NEQ),
-        61 => scan_switch2(b, kinds::ASSIGN, kinds::EQL),
-        58 => scan_switch2(b, kinds::COLON, kinds::DEFINE),
-        60 => scan_less(src, at + 1),
-        62 => scan_greater(src, at + 1),
-        38 => scan_and(src, at + 1),
-        46 => scan_period(src, at + 1),
-        40 => op(kinds::LPAREN, 1),
-        91 => op(kinds::LBRACK, 1),
-        123 => op(kinds::LBRACE, 1),
-        44 => op(kinds::COMMA, 1),
-        41 => op(kinds::RPAREN, 1),
-        93 => op(kinds::RBRACK, 1),
-        125 => op(kinds::RBRACE, 1),
-        59 => op(kinds::SEMICOLON, 1),
+        b'+' => scan_switch3(b, kinds::ADD, kinds::ADD_ASSIGN, b'+', kinds::INC),
+        b'-' => scan_switch3(b, kinds::SUB, kinds::SUB_ASSIGN, b'-', kinds::DEC),
+        b'|' => scan_switch3(b, kinds::OR, kinds::OR_ASSIGN, b'|', kinds::LOR),
+        b'*' => scan_switch2(b, kinds::MUL, kinds::MUL_ASSIGN),
+        b'/' => scan_switch2(b, kinds::QUO, kinds::QUO_ASSIGN),
+        b'%' => scan_switch2(b, kinds::REM, kinds::REM_ASSIGN),
+        b'^' => scan_switch2(b, kinds::XOR, kinds::XOR_ASSIGN),
+        b'!' => scan_switch2(b, kinds::NOT, kinds::NEQ),
+        b'=' => scan_switch2(b, kinds::ASSIGN, kinds::EQL),
+        b':' => scan_switch2(b, kinds::COLON, kinds::DEFINE),
+        b'<' => scan_less(b, c),
+        b'>' => scan_greater(b, c),
+        b'&' => scan_and(b, c),
+        b'.' => scan_period(b, c),
+        b'(' => op(kinds::LPAREN, 1),
+        b'[' => op(kinds::LBRACK, 1),
+        b'{' => op(kinds::LBRACE, 1),
+        b',' => op(kinds::COMMA, 1),
+        b')' => op(kinds::RPAREN, 1),
+        b']' => op(kinds::RBRACK, 1),
+        b'}' => op(kinds::RBRACE, 1),
+        b';' => op(kinds::SEMICOLON, 1),
         _ => op(kinds::ILLEGAL, 0),
     }
 }

@@ -10,11 +10,11 @@ use borrow.Author.Tests.{leb-true, eqb-true, le-leb, eq-eqb}
 use Rattle.basics.proofs.Choice.{and-split}
 use Rattle.position.specs.declared.File.{File}
 use Rattle.position.specs.Lines.{lineStart}
-use Rattle.position.specs.Place.{inRange, fitting, starts}
+use Rattle.position.specs.Place.{maxPosition, inRange, fitting, starts}
 use Rattle.position.proofs.Lines.{FromZero}
 
 pub record Fit (f : File) (table : List ℕ) : Type 0 where
-  pub top : f .base + f .size ≤ 4294967295
+  pub top : f .base + f .size ≤ maxPosition
   pub some : 1 ≤ f .lines
   pub held : f .lines ≤ length table
   pub first : getD table 0 0 ≡ 0

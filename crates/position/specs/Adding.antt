@@ -1,13 +1,13 @@
 -- One more line start.
 use Prim.Native.Nat.{ℕ, _+_}
-use mathlib.Core.Bool.{Bool, cond, _&&_}
+use mathlib.Core.Bool.{Bool, cond}
 use mathlib.Core.List.{List}
-use lib.Dec.{ltb, eqb}
+use lib.Dec.{eqb}
 use lib.ListN.{length, set}
 use Rattle.refusal.specs.Outcome.{Outcome, refused, gave}
 use Rattle.refusal.specs.Refusals.{DOES-NOT-FIT, TABLE-FULL}
 use Rattle.position.specs.declared.File.{File}
-use Rattle.position.specs.Lines.{lineStart}
+use Rattle.position.specs.Lines.{lineStart, isRecorded}
 use Rattle.position.specs.Place.{fitting}
 
 -- what a call leaves in the table, and its outcome: the count of lines
@@ -15,9 +15,9 @@ pub record After : Type 0 where
   pub table : List ℕ
   pub outcome : Outcome ℕ
 
--- the offset is above the last start and below the size
+-- whether the offset is one to record
 unfoldable pub starting : File → List ℕ → ℕ → Bool
-starting f table o = ltb (lineStart table (f .lines)) o && ltb o (f .size)
+starting f table o = isRecorded (lineStart table (f .lines)) (f .size) o
 
 -- such an offset is written after the starts, where there is room
 unfoldable pub addLine : File → List ℕ → ℕ → After

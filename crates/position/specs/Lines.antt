@@ -1,6 +1,6 @@
 -- The line and the column of an offset, by the starts of the lines.
 use Prim.Native.Nat.{ℕ, suc, _+_, _-_, _<_}
-use mathlib.Core.Bool.{cond}
+use mathlib.Core.Bool.{Bool, cond, _&&_}
 use mathlib.Core.List.{List, [], _∷_}
 use lib.Dec.{ltb}
 use lib.ListN.{length, getD}
@@ -26,6 +26,10 @@ columnOf starts o = o - startOf starts o + 1
 -- an offset with its line and column
 abbrev pub positionAt : List ℕ → ℕ → Position
 positionAt starts o = record { offset = o; line = lineOf starts o; column = columnOf starts o }
+
+-- "if that is above the last start and below the size": whether a line start that was read is recorded
+abbrev pub isRecorded : ℕ → ℕ → ℕ → Bool
+isRecorded last size start = ltb last start && ltb start size
 
 -- each start is below the next
 abbrev pub StrictlyRising : List ℕ → Type 0

@@ -14,9 +14,13 @@ maxPosition = 4294967295
 unfoldable pub inRange : File → Bool
 inRange f = leb (f .base + f .size) maxPosition
 
--- besides, the line count is neither 0 nor above the table, and the first start is 0
+-- the line count is not 0
+abbrev pub hasLine : File → Bool
+hasLine f = leb 1 (f .lines)
+
+-- besides, the line count is not above the table, and the first start is 0
 unfoldable pub fitting : File → List ℕ → Bool
-fitting f table = inRange f && leb 1 (f .lines) && leb (f .lines) (length table) && eqb (getD table 0 0) 0
+fitting f table = inRange f && hasLine f && leb (f .lines) (length table) && eqb (getD table 0 0) 0
 
 -- the starts of the lines: the table's numbers up to the count
 abbrev pub starts : File → List ℕ → List ℕ

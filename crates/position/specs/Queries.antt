@@ -1,4 +1,4 @@
--- The position of an offset, the place of a position and the start of a line, each with the refusals that a query checks: 6, then 4 or 5.
+-- The position of an offset, the place of a position and the start of a line, each with the refusals that a query checks: DOES-NOT-FIT, then NO-POSITION or NO-LINE.
 use Prim.Native.Nat.{ℕ, _+_, _-_}
 use mathlib.Core.Bool.{cond, _&&_}
 use mathlib.Core.List.{List}

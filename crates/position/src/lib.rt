@@ -85,7 +85,8 @@ impl File {
         if offset > self.size {
             return Answer::Refused(refusal::NO_POSITION);
         }
-        Answer::Gave(self.base + offset)
+        let position = self.base + offset;
+        Answer::Gave(position)
     }
 
     // The offset, line and column of a position.
@@ -133,7 +134,8 @@ impl File {
         if start > offset {
             return Answer::Refused(refusal::DOES_NOT_FIT);
         }
-        Answer::Gave(self.base + start)
+        let position = self.base + start;
+        Answer::Gave(position)
     }
 
     // The number of lines after a line start was read: it is recorded if it is above the last one and below the size.
@@ -154,6 +156,7 @@ impl File {
             return Answer::Refused(refusal::TABLE_FULL);
         }
         table[lines] = offset;
-        Answer::Gave(lines + 1)
+        let count = lines + 1;
+        Answer::Gave(count)
     }
 }

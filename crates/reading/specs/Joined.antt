@@ -13,7 +13,7 @@ use Rattle.lexer.specs.Lexeme.{Shut}
 use Rattle.reading.specs.Reading.{opened}
 use Rattle.reading.specs.Run.{Lexer, scanned, run, tokenAt, move}
 
--- none of the errors is an open raw string (6) or an open comment (7)
+-- none of the errors is an open raw string or an open comment
 abbrev pub AllShut : List Error → Type 0
 AllShut [] = Unit {0}
 AllShut (e ∷ es) = Shut (e .number) × AllShut es

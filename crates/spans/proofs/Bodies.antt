@@ -1,5 +1,6 @@
 -- Laws of a body that is read character by character: what was read of it and what is left make the whole.
 use Prim.Native.Nat.{ℕ, _+_, _≤_, _<_}
+use Prim.Native.Char.{code}
 use mathlib.Core.Path.{_≡_, refl, sym, ap, _∙_}
 use mathlib.Core.Bool.{Bool, true, false, _&&_}
 use mathlib.Core.List.{List, [], _∷_}
@@ -14,7 +15,8 @@ use Rattle.utf8.proofs.First.{chars-end, charAt-ascii, there-chars, there-least
 use Rattle.spans.specs.declared.body.Body.{Body}
 use Rattle.spans.specs.Span.{Span, unclosed, last, more, toStop, toStarSlash}
 use Rattle.utf8.specs.Count.{isLf, isCr, one, count}
-use Rattle.spans.specs.Body.{bodyOf, emptyAt, grown}
+use Rattle.spans.specs.Body.{bodyOf}
+use Rattle.spans.specs.Steps.{emptyAt, grown}
 use Rattle.spans.specs.Counted.{Counted}
 use Rattle.utf8.proofs.Count.{one-le, code-at}
 
@@ -80,13 +82,13 @@ module _ (s : List ℕ) (p : ℕ) (h : p < length s) (r : List Char) where
   stop-more x l e = rw (code-at s p _ x h refl l, e)
 
   module _ (star : Bool) where
-    pub slash-last : star && eqb (getD s p 0) 47 ≡ true → toStarSlash star (charAt s p ∷ r) ≡ last
+    pub slash-last : star && eqb (getD s p 0) (code "/") ≡ true → toStarSlash star (charAt s p ∷ r) ≡ last
     unfolding toStarSlash
-    slash-last e = rw (code-at s p _ 47 h refl (lit< tt), e)
+    slash-last e = rw (code-at s p _ (code "/") h refl (lit< tt), e)
 
-    pub slash-more : star && eqb (getD s p 0) 47 ≡ false → toStarSlash star (charAt s p ∷ r) ≡ more (toStarSlash (eqb (getD s p 0) 42) r)
+    pub slash-more : star && eqb (getD s p 0) (code "/") ≡ false → toStarSlash star (charAt s p ∷ r) ≡ more (toStarSlash (eqb (getD s p 0) (code "*")) r)
     unfolding toStarSlash
-    slash-more e = rw (code-at s p _ 47 h refl (lit< tt), e, code-at s p _ 42 h refl (lit< tt))
+    slash-more e = rw (code-at s p _ (code "/") h refl (lit< tt), e, code-at s p _ (code "*") h refl (lit< tt))
 
 -- ---- one character more
 counted-empty : (at : ℕ) → Counted (emptyAt at)
@@ -103,7 +105,7 @@ counted-grown b c t w k =
     }
 
 module _ (s : List ℕ) (b : Body) (h : b .end < length s) (t : Bool) where
-  pub grown-ascii : getD s (b .end) 0 < 0x80 → (x y : ℕ) → x ≡ one (eqb (getD s (b .end) 0) 10) → y ≡ one (eqb (getD s (b .end) 0) 13)
+  pub grown-ascii : getD s (b .end) 0 < 0x80 → (x y : ℕ) → x ≡ one (eqb (getD s (b .end) 0) (code "\n")) → y ≡ one (eqb (getD s (b .end) 0) (code "\r"))
       → record { end = b .end + 1; chars = b .chars + 1; closed = t; lfs = b .lfs + x; crs = b .crs + y; strays = b .strays } ≡ grown b (charAt s (b .end)) t
   unfolding grown
   grown-ascii l x y e k =
@@ -115,30 +117,30 @@ module _ (s : List ℕ) (b : Body) (h : b .end < length s) (t : Bool) where
   grown-wide l c e x k =
       rw (
         ← e,
-        code-at s (b .end) c 10 h e (lit< tt),
-        code-at s (b .end) c 13 h e (lit< tt),
-        ne-eqb (getD s (b .end) 0) 10 (λ z. omega arith),
-        ne-eqb (getD s (b .end) 0) 13 (λ z. omega arith),
+        code-at s (b .end) c (code "\n") h e (lit< tt),
+        code-at s (b .end) c (code "\r") h e (lit< tt),
+        ne-eqb (getD s (b .end) 0) (code "\n") (λ z. omega arith),
+        ne-eqb (getD s (b .end) 0) (code "\r") (λ z. omega arith),
         k,
       )
       (same-body refl refl refl (sym (add-zero _)) (sym (add-zero _)) refl)
 
 -- ---- a loop that reads a body: w is the whole one, of a text s; f finds the span in what is left
-pub record Reading (w : Body) (f : List Char → Span) (s : List ℕ) (b : Body) : Type 0 where
+pub record PartRead (w : Body) (f : List Char → Span) (s : List ℕ) (b : Body) : Type 0 where
   pub counted : Counted b
   pub not-yet : b .closed ≡ false
   pub rest : w ≡ whole f s b
 
-pub reading-start : (f : List Char → Span) (s : List ℕ) (at : ℕ) (b : Body) → b ≡ emptyAt at → Reading (bodyOf at (f (chars (drop at s))) (chars (drop at s))) f s b
-reading-start f s at b e = rw e (record { counted = counted-empty at; not-yet = refl; rest = whole-start f s at })
+pub part-start : (f : List Char → Span) (s : List ℕ) (at : ℕ) (b : Body) → b ≡ emptyAt at → PartRead (bodyOf at (f (chars (drop at s))) (chars (drop at s))) f s b
+part-start f s at b e = rw e (record { counted = counted-empty at; not-yet = refl; rest = whole-start f s at })
 
-module _ (w : Body) (f : List Char → Span) (s : List ℕ) (b : Body) (i : Reading w f s b) where
-  pub reading-end : f [] ≡ unclosed → length s ≤ b .end → b ≡ w
-  reading-end e h = sym (i .rest ∙ whole-end f s b e h (i .not-yet))
+module _ (w : Body) (f : List Char → Span) (s : List ℕ) (b : Body) (i : PartRead w f s b) where
+  pub part-end : f [] ≡ unclosed → length s ≤ b .end → b ≡ w
+  part-end e h = sym (i .rest ∙ whole-end f s b e h (i .not-yet))
 
   module _ (h : b .end < length s) (a : Body) (t : Bool) (e : a ≡ grown b (charAt s (b .end)) t) where
-    pub reading-last : t ≡ true → ((r : List Char) → f (charAt s (b .end) ∷ r) ≡ last) → a ≡ w
-    reading-last k l = e ∙ ap (grown b (charAt s (b .end))) k ∙ sym (i .rest ∙ whole-last f s b h l)
+    pub part-last : t ≡ true → ((r : List Char) → f (charAt s (b .end) ∷ r) ≡ last) → a ≡ w
+    part-last k l = e ∙ ap (grown b (charAt s (b .end))) k ∙ sym (i .rest ∙ whole-last f s b h l)
 
     -- the body that has grown ends farther on, within the text
     pub grown-end : (b .end < a .end) × (a .end ≤ length s)
@@ -147,9 +149,9 @@ module _ (w : Body) (f : List Char → Span) (s : List ℕ) (b : Body) (i : Read
         let z = ap (λ (x : Body). x .end) e in
         (omega (arith, there-least s (b .end) _ h refl), omega (arith, there-fits s (b .end) _ h refl))
 
-    pub reading-next : t ≡ false → (g : List Char → Span) → ((r : List Char) → f (charAt s (b .end) ∷ r) ≡ more (g r)) → Reading w g s a
+    pub part-next : t ≡ false → (g : List Char → Span) → ((r : List Char) → f (charAt s (b .end) ∷ r) ≡ more (g r)) → PartRead w g s a
     unfolding grown
-    reading-next k g l =
+    part-next k g l =
         record {
           counted = rw e (counted-grown b (charAt s (b .end)) t (there-least s (b .end) _ h refl) (i .counted));
           not-yet = ap (λ (x : Body). x .closed) e ∙ k;

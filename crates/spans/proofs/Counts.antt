@@ -1,17 +1,17 @@
 -- Laws of what a body holds: a text behind does not change it, what its last character adds, and that it is no more than its bytes.
 use Prim.Native.Nat.{ℕ, zero, suc, _+_, _-_, _≤_, _<_}
-use mathlib.Core.Path.{_≡_, refl, sym, ap, _∙_}
-use mathlib.Core.Bool.{Bool, true, and-false}
-use mathlib.Core.List.{List, [], _∷_, _++_}
+use Prim.Native.Char.{code}
+use mathlib.Core.Path.{_≡_, sym, ap, _∙_}
+use mathlib.Core.Bool.{true, and-false}
+use mathlib.Core.List.{List, _∷_, _++_}
 use native.Mathlib.Omega.{arith}
-use native.Mathlib.Decide.{decLt}
-use native.Mathlib.Nat.{add-zero, zero-add, add-assoc}
-use lib.Dec.{eqb, lit≤}
+use native.Mathlib.Nat.{add-zero}
+use lib.Dec.{eqb}
 use lib.ListN.{length, getD, take, drop}
-use lib.Seq.{take-suc, take-append-le, drop-cons}
+use lib.Seq.{take-append-le, drop-cons}
 use borrow.Author.Tests.{ne-eqb}
 use Rattle.utf8.specs.declared.Char.{Char}
-use Rattle.utf8.specs.Chars.{ended, firstChar, chars, widths, isStray}
+use Rattle.utf8.specs.Chars.{ended, chars, widths, isStray}
 use Rattle.utf8.specs.Count.{isCr, count}
 use Rattle.utf8.proofs.Count.{count-last, widths-last}
 use Rattle.utf8.proofs.Places.{place-chars, ascii-widths}
@@ -42,7 +42,7 @@ pub record Inside (r : List Char) (n : ℕ) : Type 0 where
   pub crs : count isCr (take n r) ≡ count isCr (take (n - 1) r)
   pub strays : count isStray (take n r) ≡ count isStray (take (n - 1) r)
 
-module _ (x : ℕ) (low : x < 0x80) (no-cr : x ≡ 13 → ⊥) (s : List ℕ) (p : ℕ) where
+module _ (x : ℕ) (low : x < 0x80) (no-cr : x ≡ code "\r" → ⊥) (s : List ℕ) (p : ℕ) where
   last-inside : (n m : ℕ) → n ≡ suc m → m < length (chars (drop p s)) → getD (chars (drop p s)) m ended .code ≡ x → Inside (chars (drop p s)) n
   last-inside n m e h k =
       let r = chars (drop p s) in
@@ -51,7 +51,7 @@ module _ (x : ℕ) (low : x < 0x80) (no-cr : x ≡ 13 → ⊥) (s : List ℕ) (p
       rw e
       (record {
         bytes = rw d (widths-last r m h ∙ ap (λ w. widths (take m r) + w) (low-width s p m h (omega arith)));
-        crs = rw d (count-last r m h isCr ∙ rw (ne-eqb (c .code) 13 (λ z. no-cr (sym k ∙ z)), add-zero));
+        crs = rw d (count-last r m h isCr ∙ rw (ne-eqb (c .code) (code "\r") (λ z. no-cr (sym k ∙ z)), add-zero));
         strays = rw d (count-last r m h isStray ∙ rw (ne-eqb (c .code) 0xFFFD (λ z. omega arith), and-false (eqb (c .width) 1), add-zero));
       })
 

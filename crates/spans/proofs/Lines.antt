@@ -1,5 +1,6 @@
 -- Laws of a comment's line: one step at a place of a text, by the byte there; and what the place of the closing says.
 use Prim.Native.Nat.{ℕ, _+_, _≤_, _<_}
+use Prim.Native.Char.{code}
 use mathlib.Core.Path.{_≡_, refl, ap, _∙_}
 use mathlib.Core.Bool.{Bool, true, false, cond, _&&_}
 use mathlib.Core.List.{List, [], _∷_}
@@ -17,7 +18,8 @@ use Rattle.blanks.proofs.Blanks.{space-high}
 use Rattle.spans.specs.declared.line.Stop.{Stop}
 use Rattle.spans.specs.declared.line.Stop.the-variants.{Closed, End}
 use Rattle.utf8.proofs.Count.{code-at}
-use Rattle.spans.specs.Line.{blankToEnd, stopFrom, endsLine}
+use Rattle.spans.specs.Line.{blankToEnd, endsLine}
+use Rattle.spans.specs.Steps.{stopFrom}
 
 module _ (s : List ℕ) (p : ℕ) where
   pub blank-end : length s ≤ p → blankToEnd (chars (drop p s)) ≡ true
@@ -25,14 +27,14 @@ module _ (s : List ℕ) (p : ℕ) where
   blank-end h = rw (chars-end s p h)
 
   module _ (h : p < length s) where
-    pub blank-lf : getD s p 0 ≡ 10 → blankToEnd (chars (drop p s)) ≡ true
+    pub blank-lf : getD s p 0 ≡ code "\n" → blankToEnd (chars (drop p s)) ≡ true
     unfolding blankToEnd
-    blank-lf e = rw (chars-at s p h, code-there s p 10 h (lit< tt), eq-eqb _ _ e)
+    blank-lf e = rw (chars-at s p h, code-there s p (code "\n") h (lit< tt), eq-eqb _ _ e)
 
-    module _ (n : getD s p 0 ≡ 10 → ⊥) where
+    module _ (n : getD s p 0 ≡ code "\n" → ⊥) where
       pub blank-other : isSpace (getD s p 0) ≡ false → blankToEnd (chars (drop p s)) ≡ false
       unfolding blankToEnd
-      blank-other e = rw (chars-at s p h, code-there s p 10 h (lit< tt), ne-eqb _ _ n, test-there s p isSpace space-high h, e)
+      blank-other e = rw (chars-at s p h, code-there s p (code "\n") h (lit< tt), ne-eqb _ _ n, test-there s p isSpace space-high h, e)
 
       pub blank-next : isSpace (getD s p 0) ≡ true → blankToEnd (chars (drop p s)) ≡ blankToEnd (chars (drop (p + 1) s))
       unfolding blankToEnd
@@ -45,21 +47,21 @@ module _ (s : List ℕ) (p : ℕ) (star : Bool) where
   stop-end h = rw (chars-end s p h)
 
   module _ (h : p < length s) where
-    pub stop-lf : getD s p 0 ≡ 10 → stopFrom p star (chars (drop p s)) ≡ End true
+    pub stop-lf : getD s p 0 ≡ code "\n" → stopFrom p star (chars (drop p s)) ≡ End true
     unfolding stopFrom
-    stop-lf e = rw (chars-at s p h, code-there s p 10 h (lit< tt), eq-eqb _ _ e)
+    stop-lf e = rw (chars-at s p h, code-there s p (code "\n") h (lit< tt), eq-eqb _ _ e)
 
-    module _ (n : getD s p 0 ≡ 10 → ⊥) (c : Char) (e : c ≡ charAt s p) where
+    module _ (n : getD s p 0 ≡ code "\n" → ⊥) (c : Char) (e : c ≡ charAt s p) where
       stop-step : stopFrom p star (chars (drop p s))
-          ≡ cond (star && eqb (getD s p 0) 47) (Closed (p + c .width)) (stopFrom (p + c .width) (eqb (getD s p 0) 42) (chars (drop (p + c .width) s)))
+          ≡ cond (star && eqb (getD s p 0) (code "/")) (Closed (p + c .width)) (stopFrom (p + c .width) (eqb (getD s p 0) (code "*")) (chars (drop (p + c .width) s)))
       unfolding stopFrom
-      stop-step = rw (there-chars s p c h e, code-at s p c 10 h e (lit< tt), ne-eqb _ _ n, code-at s p c 47 h e (lit< tt), code-at s p c 42 h e (lit< tt))
+      stop-step = rw (there-chars s p c h e, code-at s p c (code "\n") h e (lit< tt), ne-eqb _ _ n, code-at s p c (code "/") h e (lit< tt), code-at s p c (code "*") h e (lit< tt))
 
-      pub stop-closed : star && eqb (getD s p 0) 47 ≡ true → stopFrom p star (chars (drop p s)) ≡ Closed (p + c .width)
+      pub stop-closed : star && eqb (getD s p 0) (code "/") ≡ true → stopFrom p star (chars (drop p s)) ≡ Closed (p + c .width)
       stop-closed k = rw k at stop-step
 
-      pub stop-next : star && eqb (getD s p 0) 47 ≡ false
-          → stopFrom p star (chars (drop p s)) ≡ stopFrom (p + c .width) (eqb (getD s p 0) 42) (chars (drop (p + c .width) s))
+      pub stop-next : star && eqb (getD s p 0) (code "/") ≡ false
+          → stopFrom p star (chars (drop p s)) ≡ stopFrom (p + c .width) (eqb (getD s p 0) (code "*")) (chars (drop (p + c .width) s))
       stop-next k = rw k at stop-step
 
 -- ---- what the search says of the line
@@ -83,12 +85,12 @@ unfolding endsLine stopFrom
 line-of s p star [] e = refl
 line-of s p star (c ∷ r) e =
     let n = next-chars s p c r e in
-    go (eqb (c .code) 10) (star && eqb (c .code) 47) n (line-of s (p + c .width) (eqb (c .code) 42) r n)
+    go (eqb (c .code) (code "\n")) (star && eqb (c .code) (code "/")) n (line-of s (p + c .width) (eqb (c .code) (code "*")) r n)
   where
     go : (t u : Bool) → r ≡ chars (drop (p + c .width) s)
-        → endsLine (eqb (c .code) 42) r ≡ lineEnds s (stopFrom (p + c .width) (eqb (c .code) 42) r)
-        → cond t true (cond u (blankToEnd r) (endsLine (eqb (c .code) 42) r))
-        ≡ lineEnds s (cond t (End true) (cond u (Closed (p + c .width)) (stopFrom (p + c .width) (eqb (c .code) 42) r)))
+        → endsLine (eqb (c .code) (code "*")) r ≡ lineEnds s (stopFrom (p + c .width) (eqb (c .code) (code "*")) r)
+        → cond t true (cond u (blankToEnd r) (endsLine (eqb (c .code) (code "*")) r))
+        ≡ lineEnds s (cond t (End true) (cond u (Closed (p + c .width)) (stopFrom (p + c .width) (eqb (c .code) (code "*")) r)))
     go true u n ih = refl
     go false true n ih = ap blankToEnd n
     go false false n ih = ih

@@ -1,5 +1,6 @@
 -- Laws of spans: they are within the text, one that is not closed is all of it, and one that is closed does not depend on what comes behind.
 use Prim.Native.Nat.{ℕ, suc, pred, _≤_, _<_, suc-le-suc}
+use Prim.Native.Char.{code}
 use mathlib.Core.Path.{_≡_, refl, sym, ap, _∙_}
 use mathlib.Core.Bool.{Bool, true, false, cond, _&&_, true≢false, false≢true}
 use mathlib.Core.List.{List, [], _∷_, _++_}
@@ -35,7 +36,7 @@ pub slash-spanned : (star : Bool) (r : List Char) → Spanned r (toStarSlash sta
 unfolding toStarSlash
 slash-spanned star [] = spanned-none
 slash-spanned star (c ∷ r) =
-    spanned-cond (star && eqb (c .code) 47) c r (toStarSlash (eqb (c .code) 42) r) (slash-spanned (eqb (c .code) 42) r)
+    spanned-cond (star && eqb (c .code) (code "/")) c r (toStarSlash (eqb (c .code) (code "*")) r) (slash-spanned (eqb (c .code) (code "*")) r)
 
 -- ---- more text behind
 local-cond : (t : Bool) (s s′ : Span) → (s .closed ≡ true → s′ ≡ s) → cond t last (more s) .closed ≡ true → cond t last (more s′) ≡ cond t last (more s)
@@ -51,25 +52,25 @@ pub slash-local : (star : Bool) (r t : List Char) → toStarSlash star r .closed
 unfolding toStarSlash
 slash-local star [] t e = absurd (false≢true e)
 slash-local star (c ∷ r) t e =
-    local-cond (star && eqb (c .code) 47) (toStarSlash (eqb (c .code) 42) r) (toStarSlash (eqb (c .code) 42) (r ++ t)) (slash-local (eqb (c .code) 42) r t) e
+    local-cond (star && eqb (c .code) (code "/")) (toStarSlash (eqb (c .code) (code "*")) r) (toStarSlash (eqb (c .code) (code "*")) (r ++ t)) (slash-local (eqb (c .code) (code "*")) r t) e
 
 -- ---- in a text that ends in a line feed
-pub line-closed : (r : List Char) → Ends r → toStop 10 r .closed ≡ true
+pub line-closed : (r : List Char) → Ends r → toStop (code "\n") r .closed ≡ true
 unfolding toStop
 line-closed [] h = absurd h
-line-closed (c ∷ r) h = go (eqb (c .code) 10) refl (line-closed r)
+line-closed (c ∷ r) h = go (eqb (c .code) (code "\n")) refl (line-closed r)
   where
-    go : (t : Bool) → eqb (c .code) 10 ≡ t → (Ends r → toStop 10 r .closed ≡ true) → cond t last (more (toStop 10 r)) .closed ≡ true
+    go : (t : Bool) → eqb (c .code) (code "\n") ≡ t → (Ends r → toStop (code "\n") r .closed ≡ true) → cond t last (more (toStop (code "\n") r)) .closed ≡ true
     go true e f = refl
-    go false e f = f (ends-tail c r h (eqb-false (c .code) 10 e))
+    go false e f = f (ends-tail c r h (eqb-false (c .code) (code "\n") e))
 
 -- a span that another character closes leaves the line feed
-left-cond : (t : Bool) (c : Char) (r : List Char) (s : Span) → Spanned r s → Ends (c ∷ r) → (t ≡ true → c .code ≡ 10 → ⊥) → (Ends r → s .closed ≡ true → s .len < length r)
+left-cond : (t : Bool) (c : Char) (r : List Char) (s : Span) → Spanned r s → Ends (c ∷ r) → (t ≡ true → c .code ≡ code "\n" → ⊥) → (Ends r → s .closed ≡ true → s .len < length r)
     → cond t last (more s) .closed ≡ true → cond t last (more s) .len < suc (length r)
 left-cond true c r s i h n f e = omega (arith, ends-some r (ends-tail c r h (n refl)))
 left-cond false c r s i h n f e = omega (arith, f (ends-more c r h (omega (arith, i .bound, i .some e))) e)
 
-pub stop-left : (x : ℕ) (r : List Char) → (x ≡ 10 → ⊥) → Ends r → toStop x r .closed ≡ true → toStop x r .len < length r
+pub stop-left : (x : ℕ) (r : List Char) → (x ≡ code "\n" → ⊥) → Ends r → toStop x r .closed ≡ true → toStop x r .len < length r
 unfolding toStop
 stop-left x [] n h e = absurd h
 stop-left x (c ∷ r) n h e =
@@ -79,11 +80,11 @@ pub slash-left : (star : Bool) (r : List Char) → Ends r → toStarSlash star r
 unfolding toStarSlash
 slash-left star [] h e = absurd h
 slash-left star (c ∷ r) h e =
-    let next = eqb (c .code) 42 in
-    left-cond (star && eqb (c .code) 47) c r (toStarSlash next r) (slash-spanned next r) h (λ k g. not-feed (and-split star _ k .1) g) (slash-left next r) e
+    let next = eqb (c .code) (code "*") in
+    left-cond (star && eqb (c .code) (code "/")) c r (toStarSlash next r) (slash-spanned next r) h (λ k g. not-feed (and-split star _ k .1) g) (slash-left next r) e
   where
-    not-feed : eqb (c .code) 47 ≡ true → c .code ≡ 10 → ⊥
-    not-feed k g = let z = eqb-true (c .code) 47 k in omega arith
+    not-feed : eqb (c .code) (code "/") ≡ true → c .code ≡ code "\n" → ⊥
+    not-feed k g = let z = eqb-true (c .code) (code "/") k in omega arith
 
 -- ---- the character that closes a span is its last one
 pub record Closing (x : ℕ) (r : List Char) (s : Span) (n : ℕ) : Type 0 where

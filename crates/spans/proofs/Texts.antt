@@ -1,5 +1,6 @@
 -- Laws of a body's text: its length, and that it is the bytes read just where there is no CR and no stray byte among them.
 use Prim.Native.Nat.{ℕ, zero, suc, _+_, _*_, _/_, _%_, _≤_, _<_}
+use Prim.Native.Char.{code}
 use mathlib.Core.Path.{_≡_, refl, sym, ap, ap₂, _∙_}
 use mathlib.Core.Bool.{Bool, true, false, not, _||_, false≢true}
 use mathlib.Core.List.{List, [], _∷_, _++_, append-assoc}
@@ -21,17 +22,17 @@ use Rattle.utf8.proofs.Places.{code-there, place-fits}
 use Rattle.utf8.proofs.Append.{first-stray}
 use Rattle.utf8.proofs.Encoding.{first-coded, octets-two, octets-three, octets-four}
 use Rattle.utf8.specs.Count.{isCr, one, count}
-use Rattle.spans.specs.Body.{written, clean}
+use Rattle.spans.specs.Body.{cleaned, clean}
 
 -- ---- one character, the first of a text
 module _ (t : List ℕ) (z : 0 < length t) where
-  cr-byte : isCr (firstChar t) ≡ true → getD t 0 0 ≡ 13
-  cr-byte e = eqb-true (getD t 0 0) 13 (sym (code-there t 0 13 z (lit< tt)) ∙ e)
+  cr-byte : isCr (firstChar t) ≡ true → getD t 0 0 ≡ code "\r"
+  cr-byte e = eqb-true (getD t 0 0) (code "\r") (sym (code-there t 0 (code "\r") z (lit< tt)) ∙ e)
 
-  cr-char : isCr (firstChar t) ≡ true → firstChar t ≡ ascii 13
+  cr-char : isCr (firstChar t) ≡ true → firstChar t ≡ ascii (code "\r")
   cr-char e = let b = cr-byte e in ascii-there t 0 z (omega arith) ∙ ap ascii b
 
-  char-length : length (written (firstChar t)) + one (isCr (firstChar t)) ≡ firstChar t .width + 2 * one (isStray (firstChar t))
+  char-length : length (cleaned (firstChar t)) + one (isCr (firstChar t)) ≡ firstChar t .width + 2 * one (isStray (firstChar t))
   unfolding encode octets
   char-length =
       ⊎-elim
@@ -43,7 +44,7 @@ module _ (t : List ℕ) (z : 0 < length t) where
       (either (isStray (firstChar t))))
       (either (isCr (firstChar t)))
 
-  char-same : isCr (firstChar t) ≡ false → isStray (firstChar t) ≡ false → written (firstChar t) ≡ take (firstChar t .width) t
+  char-same : isCr (firstChar t) ≡ false → isStray (firstChar t) ≡ false → cleaned (firstChar t) ≡ take (firstChar t .width) t
   char-same e g = rw e (first-coded t z g)
 
 -- ---- the length of the text
@@ -88,17 +89,17 @@ clean-same s (suc k) p e g =
 -- ---- else they differ: the text has no CR, and without CRs a stray byte makes it longer
 crsOf : List ℕ → ℕ
 crsOf [] = 0
-crsOf (b ∷ l) = one (eqb b 13) + crsOf l
+crsOf (b ∷ l) = one (eqb b (code "\r")) + crsOf l
 
 crs-append : (l m : List ℕ) → crsOf (l ++ m) ≡ crsOf l + crsOf m
 unfolding crsOf
 crs-append [] m = sym (zero-add _)
-crs-append (b ∷ l) m = rw (crs-append l m) (sym (add-assoc (one (eqb b 13)) (crsOf l) (crsOf m)))
+crs-append (b ∷ l) m = rw (crs-append l m) (sym (add-assoc (one (eqb b (code "\r"))) (crsOf l) (crsOf m)))
 
-no-cr : (b : ℕ) → 0x80 ≤ b → eqb b 13 ≡ false
-no-cr b h = ne-eqb b 13 (λ e. omega arith)
+no-cr : (b : ℕ) → 0x80 ≤ b → eqb b (code "\r") ≡ false
+no-cr b h = ne-eqb b (code "\r") (λ e. omega arith)
 
-octets-no-cr : (n : ℕ) → eqb n 13 ≡ false → crsOf (octets n) ≡ 0
+octets-no-cr : (n : ℕ) → eqb n (code "\r") ≡ false → crsOf (octets n) ≡ 0
 unfolding crsOf octets
 octets-no-cr n e =
     elim (decLt n 0x80) [
@@ -125,23 +126,23 @@ octets-no-cr n e =
       ]
     ]
 
-written-no-cr : (c : Char) → crsOf (written c) ≡ 0
+cleaned-no-cr : (c : Char) → crsOf (cleaned c) ≡ 0
 unfolding crsOf encode
-written-no-cr c =
+cleaned-no-cr c =
     cond-ind (λ l. crsOf l ≡ 0) (isCr c) [] (encode (c .code)) (λ e. refl)
     (λ e. cond-ind (λ l. crsOf l ≡ 0) (isScalar (c .code)) (octets (c .code)) [] (λ g. octets-no-cr (c .code) e) (λ g. refl))
 
 clean-no-cr : (cs : List Char) → crsOf (clean cs) ≡ 0
 unfolding clean crsOf
 clean-no-cr [] = refl
-clean-no-cr (c ∷ cs) = crs-append (written c) (clean cs) ∙ ap₂ _+_ (written-no-cr c) (clean-no-cr cs)
+clean-no-cr (c ∷ cs) = crs-append (cleaned c) (clean cs) ∙ ap₂ _+_ (cleaned-no-cr c) (clean-no-cr cs)
 
 char-crs : (t : List ℕ) → 0 < length t → one (isCr (firstChar t)) ≤ crsOf (take (firstChar t .width) t)
 unfolding crsOf
 char-crs [] z = absurd (not-suc-le-zero z)
 char-crs (b ∷ t) z =
     ⊎-elim
-    (λ (e : isCr (firstChar (b ∷ t)) ≡ true). rw (cr-char (b ∷ t) z e, eq-eqb b 13 (cr-byte (b ∷ t) z e)) (lit≤ tt))
+    (λ (e : isCr (firstChar (b ∷ t)) ≡ true). rw (cr-char (b ∷ t) z e, eq-eqb b (code "\r") (cr-byte (b ∷ t) z e)) (lit≤ tt))
     (λ (e : isCr (firstChar (b ∷ t)) ≡ false). rw e (omega arith))
     (either (isCr (firstChar (b ∷ t))))
 
@@ -165,18 +166,18 @@ clean-only s k p h e =
     (none, omega (arith, clean-length s k p))
 
 -- the text and a line feed are never what was read
-pub clean-fed : (s : List ℕ) (k p : ℕ) → p ≤ length s → same (clean (take k (chars (drop p s))) ++ (10 ∷ [])) (take (widths (take k (chars (drop p s)))) (drop p s)) ≡ false
+pub clean-fed : (s : List ℕ) (k p : ℕ) → p ≤ length s → same (clean (take k (chars (drop p s))) ++ ((code "\n") ∷ [])) (take (widths (take k (chars (drop p s)))) (drop p s)) ≡ false
 unfolding crsOf
 clean-fed s k p h =
     let cs = take k (chars (drop p s)) in
     let bytes = take (widths cs) (drop p s) in
-    let fed : List ℕ = clean cs ++ (10 ∷ []) in
+    let fed : List ℕ = clean cs ++ ((code "\n") ∷ []) in
     ⊎-elim
     (λ (t : same fed bytes ≡ true).
     let e = same-true fed bytes t in
-    let none : count isCr cs ≡ 0 = omega (arith, crs-read s k p, sym (ap crsOf e) ∙ crs-append (clean cs) (10 ∷ []), clean-no-cr cs) in
+    let none : count isCr cs ≡ 0 = omega (arith, crs-read s k p, sym (ap crsOf e) ∙ crs-append (clean cs) ((code "\n") ∷ []), clean-no-cr cs) in
     let size = ap length e ∙ length-take-le (widths cs) (drop p s) (omega (arith, place-fits k s p h, length-drop p s)) in
-    absurd (omega (arith, clean-length s k p, length-append (clean cs) (10 ∷ []))))
+    absurd (omega (arith, clean-length s k p, length-append (clean cs) ((code "\n") ∷ []))))
     (λ (t : same fed bytes ≡ false). t)
     (either (same fed bytes))
 
@@ -205,4 +206,4 @@ clean-differs s k p h =
 pub clean-append : (a b : List Char) → clean (a ++ b) ≡ clean a ++ clean b
 unfolding clean
 clean-append [] b = refl
-clean-append (c ∷ a) b = rw (clean-append a b) (sym (append-assoc (written c) (clean a) (clean b)))
+clean-append (c ∷ a) b = rw (clean-append a b) (sym (append-assoc (cleaned c) (clean a) (clean b)))

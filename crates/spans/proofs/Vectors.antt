@@ -1,4 +1,5 @@
 -- Worked examples, by computation: what stands after the opening of a comment or a raw string.
+use Prim.Native.Char.{code}
 use mathlib.Core.Path.{_≡_, refl}
 use mathlib.Core.Bool.{true, false}
 use mathlib.Core.List.{[], _∷_, _++_}
@@ -19,34 +20,34 @@ unfolding charsFrom firstChar toStarSlash
 two-stars = refl
 
 -- a CR between `*` and `/` does not close
-cr-between : toStarSlash false (chars (42 ∷ 13 ∷ 47 ∷ [])) ≡ record { len = 3; closed = false }
+cr-between : toStarSlash false (chars ((code "*") ∷ code "\r" ∷ code "/" ∷ [])) ≡ record { len = 3; closed = false }
 unfolding charsFrom firstChar toStarSlash
 cr-between = refl
 
 -- a raw string at place 1 with an LF, a CR, a character of two bytes and a stray byte
-raw : rawBody 1 (chars (10 ∷ 13 ∷ 0xC3 ∷ 0xA9 ∷ 0xFF ∷ 96 ∷ 97 ∷ [])) ≡ record { end = 7; chars = 5; closed = true; lfs = 1; crs = 1; strays = 1 }
+raw : rawBody 1 (chars ((code "\n") ∷ code "\r" ∷ 0xC3 ∷ 0xA9 ∷ 0xFF ∷ code "`" ∷ code "a" ∷ [])) ≡ record { end = 7; chars = 5; closed = true; lfs = 1; crs = 1; strays = 1 }
 unfolding charsFrom firstChar toStop bodyOf
 raw = refl
 
-raw-text : clean (chars (10 ∷ 13 ∷ 0xC3 ∷ 0xA9 ∷ 0xFF ∷ 96 ∷ [])) ≡ 10 ∷ 0xC3 ∷ 0xA9 ∷ 0xEF ∷ 0xBF ∷ 0xBD ∷ 96 ∷ []
+raw-text : clean (chars ((code "\n") ∷ code "\r" ∷ 0xC3 ∷ 0xA9 ∷ 0xFF ∷ code "`" ∷ [])) ≡ code "\n" ∷ 0xC3 ∷ 0xA9 ∷ 0xEF ∷ 0xBF ∷ 0xBD ∷ code "`" ∷ []
 unfolding charsFrom firstChar octets encode clean
 raw-text = refl
 
 -- a line comment reads its LF
-line : lineBody 2 (chars (spelled " c" ++ (10 ∷ spelled "x"))) ≡ record { end = 5; chars = 3; closed = true; lfs = 1; crs = 0; strays = 0 }
+line : lineBody 2 (chars (spelled " c" ++ ((code "\n") ∷ spelled "x"))) ≡ record { end = 5; chars = 3; closed = true; lfs = 1; crs = 0; strays = 0 }
 unfolding charsFrom firstChar toStop bodyOf
 line = refl
 
 -- `x /* c */ r` LF: the comment does not end its line
-code-behind : endsLine false (chars (spelled " c */ r" ++ (10 ∷ []))) ≡ false
+code-behind : endsLine false (chars (spelled " c */ r" ++ ((code "\n") ∷ []))) ≡ false
 unfolding charsFrom firstChar isSpace blankToEnd endsLine
 code-behind = refl
 
-blanks-behind : endsLine false (chars (spelled " c */ " ++ (9 ∷ 13 ∷ 10 ∷ []))) ≡ true
+blanks-behind : endsLine false (chars (spelled " c */ " ++ ((code "\t") ∷ code "\r" ∷ code "\n" ∷ []))) ≡ true
 unfolding charsFrom firstChar isSpace blankToEnd endsLine
 blanks-behind = refl
 
-feed-inside : endsLine false (chars (10 ∷ spelled "*/ r")) ≡ true
+feed-inside : endsLine false (chars ((code "\n") ∷ spelled "*/ r")) ≡ true
 unfolding charsFrom firstChar isSpace blankToEnd endsLine
 feed-inside = refl
 

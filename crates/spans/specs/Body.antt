@@ -1,12 +1,12 @@
 -- What is read of a body, from the characters left, and the text that it has.
 use Prim.Native.Nat.{ℕ, _+_, _-_}
-use mathlib.Core.Bool.{Bool, false, cond}
+use Prim.Native.Char.{code}
+use mathlib.Core.Bool.{false, cond}
 use mathlib.Core.List.{List, [], _∷_, _++_}
-use lib.Dec.{eqb}
 use lib.ListN.{take}
 use Rattle.utf8.specs.declared.Char.{Char}
 use Rattle.utf8.specs.Chars.{widths, isStray, encode}
-use Rattle.utf8.specs.Count.{isLf, isCr, one, count}
+use Rattle.utf8.specs.Count.{isLf, isCr, count}
 use Rattle.spans.specs.declared.body.Body.{Body}
 use Rattle.spans.specs.Span.{Span, toStop, toStarSlash}
 
@@ -28,10 +28,10 @@ abbrev pub stopBody : ℕ → ℕ → List Char → Body
 stopBody stop at r = bodyOf at (toStop stop r) r
 
 abbrev pub rawBody : ℕ → List Char → Body
-rawBody at r = stopBody 96 at r
+rawBody at r = stopBody (code "`") at r
 
 abbrev pub lineBody : ℕ → List Char → Body
-lineBody at r = stopBody 10 at r
+lineBody at r = stopBody (code "\n") at r
 
 abbrev pub blockBody : ℕ → List Char → Body
 blockBody at r = bodyOf at (toStarSlash false r) r
@@ -40,27 +40,11 @@ blockBody at r = bodyOf at (toStarSlash false r) r
 abbrev pub rawInside : Span → ℕ
 rawInside s = cond (s .closed) (s .len - 1) (s .len)
 
--- nothing of a body is read yet
-abbrev pub emptyAt : ℕ → Body
-emptyAt at = record { end = at; chars = 0; closed = false; lfs = 0; crs = 0; strays = 0 }
-
--- a body with one character more
-unfoldable pub grown : Body → Char → Bool → Body
-grown b c closes =
-    record {
-      end = b .end + c .width;
-      chars = b .chars + 1;
-      closed = closes;
-      lfs = b .lfs + one (isLf c);
-      crs = b .crs + one (isCr c);
-      strays = b .strays + one (isStray c);
-    }
-
 -- the bytes that a character has in the text of a comment or a raw string: a CR is dropped, a stray byte is written as U+FFFD
-abbrev pub written : Char → List ℕ
-written c = cond (isCr c) [] (encode (c .code))
+abbrev pub cleaned : Char → List ℕ
+cleaned c = cond (isCr c) [] (encode (c .code))
 
 -- the text of characters there
 unfoldable pub clean : List Char → List ℕ
 clean [] = []
-clean (c ∷ cs) = written c ++ clean cs
+clean (c ∷ cs) = cleaned c ++ clean cs

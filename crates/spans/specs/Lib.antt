@@ -3,3 +3,4 @@ pub mod Body
 pub mod Counted
 pub mod Plain
 pub mod Line
+pub mod Steps

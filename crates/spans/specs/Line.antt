@@ -1,28 +1,20 @@
 -- Whether a general comment ends its line: "holds an LF, is never closed, or has only spaces, tabs and CRs between it and an LF or the end".
-use Prim.Native.Nat.{ℕ, _+_}
-use mathlib.Core.Bool.{Bool, true, false, cond, _&&_}
+use Prim.Native.Char.{code}
+use mathlib.Core.Bool.{Bool, true, cond, _&&_}
 use mathlib.Core.List.{List, [], _∷_}
 use lib.Dec.{eqb}
 use Rattle.utf8.specs.declared.Char.{Char}
+use Rattle.utf8.specs.Count.{isLf}
 use Rattle.blanks.specs.Blank.{isSpace}
-use Rattle.spans.specs.declared.line.Stop.{Stop}
-use Rattle.spans.specs.declared.line.Stop.the-variants.{Closed, End}
 
 -- only spaces, tabs and CRs up to an LF or the end
 unfoldable pub blankToEnd : List Char → Bool
 blankToEnd [] = true
-blankToEnd (c ∷ r) = cond (eqb (c .code) 10) true (isSpace (c .code) && blankToEnd r)
+blankToEnd (c ∷ r) = cond (isLf c) true (isSpace (c .code) && blankToEnd r)
 
 -- of a general comment after its opening; `star`: the character before is a `*`
 unfoldable pub endsLine : Bool → List Char → Bool
 endsLine star [] = true
 endsLine star (c ∷ r) =
-    cond (eqb (c .code) 10) true
-    (cond (star && eqb (c .code) 47) (blankToEnd r) (endsLine (eqb (c .code) 42) r))
-
--- where and how the search for the comment's end stops within its line: closed before a place, or at the end or at an LF
-unfoldable pub stopFrom : ℕ → Bool → List Char → Stop
-stopFrom at star [] = End false
-stopFrom at star (c ∷ r) =
-    cond (eqb (c .code) 10) (End true)
-    (cond (star && eqb (c .code) 47) (Closed (at + c .width)) (stopFrom (at + c .width) (eqb (c .code) 42) r))
+    cond (isLf c) true
+    (cond (star && eqb (c .code) (code "/")) (blankToEnd r) (endsLine (eqb (c .code) (code "*")) r))

@@ -1,14 +1,16 @@
--- Plain bytes, which a body is read over at once. No public contract cites these.
+-- Steps of the code. No public contract cites this file.
+-- Plain bytes, which a body is read over at once.
 use Prim.Native.Nat.{ℕ, _+_, _≤_}
+use Prim.Native.Char.{code}
 use mathlib.Core.Path.{_≡_}
 use mathlib.Core.Bool.{Bool, false, not, _&&_, _||_}
 use mathlib.Core.List.{List, [], _∷_}
 use lib.Dec.{ltb, leb, eqb}
 use lib.ListN.{length, take, drop}
 
--- is a byte to be looked at by itself: an LF or CR (below 14), none of ASCII, or one at which the body may close
+-- is a byte to be looked at by itself: up to a CR, as an LF is; none of ASCII; or one at which the body may close
 abbrev pub special : ℕ → ℕ → Bool
-special stop b = (ltb b 14 || ltb 127 b) || eqb b stop
+special stop b = (leb b (code "\r") || ltb 127 b) || eqb b stop
 
 abbrev pub anySpecial : ℕ → List ℕ → Bool
 anySpecial stop [] = false

@@ -1,5 +1,6 @@
 -- How much of a text belongs to a body: up to and with what closes it, or all.
 use Prim.Native.Nat.{ℕ, suc}
+use Prim.Native.Char.{code}
 use mathlib.Core.Bool.{Bool, true, false, cond, _&&_}
 use mathlib.Core.List.{List, [], _∷_}
 use lib.Dec.{eqb}
@@ -30,4 +31,4 @@ toStop stop (c ∷ r) = cond (eqb (c .code) stop) last (more (toStop stop r))
 -- to the first `*/`; `star`: the character before is a `*`. The opening's own does not count, and a dropped CR is a character still
 unfoldable pub toStarSlash : Bool → List Char → Span
 toStarSlash star [] = unclosed
-toStarSlash star (c ∷ r) = cond (star && eqb (c .code) 47) last (more (toStarSlash (eqb (c .code) 42) r))
+toStarSlash star (c ∷ r) = cond (star && eqb (c .code) (code "/")) last (more (toStarSlash (eqb (c .code) (code "*")) r))

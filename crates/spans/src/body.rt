@@ -5,7 +5,8 @@ ghost use Prim.Native.Nat.{_<_};
 ghost use lib.ListN.{length, drop};
 ghost use Rattle.utf8.specs.Chars.{charAt, chars};
 ghost use Rattle.utf8.specs.Count.{one};
-ghost use Rattle.spans.specs.Body.{emptyAt, grown, stopBody, rawBody, lineBody, blockBody};
+ghost use Rattle.spans.specs.Body.{stopBody, rawBody, lineBody, blockBody};
+ghost use Rattle.spans.specs.Steps.{emptyAt, grown};
 ghost use Rattle.spans.specs.Counted.{Counted};
 
 // What is read of a body: where it ends, how many characters it has, whether its closing was read, and how many of its
@@ -47,24 +48,30 @@ fn grow(src: &[u8], body: Body, last: bool) -> Body
 {
     let at = body.end;
     let b = src[at];
+    let chars = body.chars + 1;
     if b < 128 {
+        let end = at + 1;
+        let lfs = body.lfs + one_if(b == b'\n');
+        let crs = body.crs + one_if(b == b'\r');
         return Body {
-            end: at + 1,
-            chars: body.chars + 1,
+            end,
+            chars,
             closed: last,
-            lfs: body.lfs + one_if(b == 10),
-            crs: body.crs + one_if(b == 13),
+            lfs,
+            crs,
             strays: body.strays,
         };
     }
     let c = utf8::char_at(src, at);
+    let end = at + c.width;
+    let strays = body.strays + one_if(utf8::is_stray(c));
     Body {
-        end: at + c.width,
-        chars: body.chars + 1,
+        end,
+        chars,
         closed: last,
         lfs: body.lfs,
         crs: body.crs,
-        strays: body.strays + one_if(utf8::is_stray(c)),
+        strays,
     }
 }
 
@@ -99,14 +106,14 @@ fn body_to(src: &[u8], at: usize, stop: u8) -> Body
 pub fn raw_body(src: &[u8], at: usize) -> Body
     ensures { λ r. ⌜ r ≡ rawBody at (chars (drop at (now (src .entry)))) ⌝ }
 {
-    body_to(src, at, 96)
+    body_to(src, at, b'`')
 }
 
 // Of a line comment, from after its two slashes.
 pub fn line_body(src: &[u8], at: usize) -> Body
     ensures { λ r. ⌜ r ≡ lineBody at (chars (drop at (now (src .entry)))) ⌝ }
 {
-    body_to(src, at, 10)
+    body_to(src, at, b'\n')
 }
 
 // Of a general comment, from after its opening.
@@ -120,7 +127,7 @@ pub fn block_body(src: &[u8], at: usize) -> Body
     while body.end < src.len() {
         let p = body.end;
         if !star & (tried <= p) {
-            if plain::is_block(src, p, 42) {
+            if plain::is_block(src, p, b'*') {
                 body.end = p + 16;
                 body.chars += 16;
                 continue;
@@ -128,12 +135,12 @@ pub fn block_body(src: &[u8], at: usize) -> Body
             tried = p + 16;
         }
         let b = src[p];
-        let closes = star & (b == 47);
+        let closes = star & (b == b'/');
         body = grow(src, body, closes);
         if closes {
             return body;
         }
-        star = b == 42;
+        star = b == b'*';
     }
     body
 }

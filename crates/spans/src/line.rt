@@ -5,7 +5,8 @@ ghost use Prim.Native.Nat.{_<_};
 ghost use lib.ListN.{length, drop};
 ghost use Rattle.utf8.specs.Chars.{chars};
 ghost use Rattle.reader.specs.Read.{readPlace};
-ghost use Rattle.spans.specs.Line.{blankToEnd, stopFrom, endsLine};
+ghost use Rattle.spans.specs.Line.{blankToEnd, endsLine};
+ghost use Rattle.spans.specs.Steps.{stopFrom};
 
 // Where and how the search for a comment's end stopped: closed before a place, or at the end of its line or of the source.
 pub(crate) enum Stop {
@@ -20,7 +21,7 @@ fn blank_to_end(src: &[u8], at: usize) -> bool
     let mut p = at;
     while p < src.len() {
         let b = src[p];
-        if b == 10 {
+        if b == b'\n' {
             return true;
         }
         if !blanks::is_space(b) {
@@ -53,14 +54,14 @@ fn comment_end(src: &[u8], at: usize) -> Stop
             break Stop::End { lf: false };
         }
         let b = src[p];
-        if b == 10 {
+        if b == b'\n' {
             break Stop::End { lf: true };
         }
         p = next_place(src, p);
-        if star & (b == 47) {
+        if star & (b == b'/') {
             break Stop::Closed(p);
         }
-        star = b == 42;
+        star = b == b'*';
     };
     stop
 }

@@ -17,7 +17,7 @@ pub(crate) fn is_block(src: &[u8], at: usize, stop: u8) -> bool
     let mut any = false;
     for k in 0..16usize {
         let b = src[at + k];
-        any = any | ((b < 14) | (b > 127) | (b == stop));
+        any = any | ((b <= b'\r') | (b > 127) | (b == stop));
     }
     !any
 }
@@ -33,6 +33,7 @@ pub(crate) fn run_len(src: &[u8], at: usize, stop: u8) -> usize
     }
     let w = swar::eight(src, at);
     let low = w & 0x7F7F_7F7F_7F7F_7F7F;
+    // 0x72 is 0x7F - b'\r'
     let not_low = low + 0x7272_7272_7272_7272;
     let not_stop = (low ^ (stop as u64 * 0x0101_0101_0101_0101)) + 0x7F7F_7F7F_7F7F_7F7F;
     let others = (!(not_low & not_stop) | w) & 0x8080_8080_8080_8080;

@@ -1,11 +1,12 @@
 -- Laws of words: one character of a run at a place, by the byte there; and that it is the longest run.
 use Prim.Native.Nat.{ℕ, _+_, _≤_, _<_}
+use Prim.Native.Char.{code}
 use mathlib.Core.Path.{_≡_, refl}
 use mathlib.Core.Bool.{Bool, true, false, cond, Bool·beq}
 use mathlib.Core.List.{List}
 use native.Mathlib.Omega.{arith}
 use native.Mathlib.Nat.{add-zero}
-use lib.Dec.{ltb, eqb}
+use lib.Dec.{ltb, leb, eqb}
 use lib.ListN.{length, getD, drop}
 use borrow.Author.Tests.{ne-eqb}
 use Rattle.basics.proofs.Choice.{above-it, same-test}
@@ -18,7 +19,9 @@ use Rattle.words.specs.Word.{isLetter, isWord, wordLen}
 
 -- a letter by the bounds of the ranges, in their order
 abbrev pub byBounds : ℕ → Bool
-byBounds b = cond (ltb b 65) false (cond (ltb b 91) true (cond (eqb b 95) true (cond (ltb b 97) false (ltb b 123))))
+byBounds b =
+    cond (ltb b (code "A")) false
+    (cond (leb b (code "Z")) true (cond (eqb b (code "_")) true (cond (ltb b (code "a")) false (leb b (code "z")))))
 
 right : ℕ → Bool
 right b = Bool·beq (byBounds b) (isLetter b)
@@ -30,11 +33,16 @@ letter-by-bounds b h = same-test _ _ (every-below right 256 tt b h)
 -- no character above 127 is a letter, or part of a word
 pub letter-high : (c : ℕ) → 0x80 ≤ c → isLetter c ≡ false
 unfolding isLetter
-letter-high c h = rw (above-it 97 c 122 (omega arith) (omega arith), above-it 65 c 90 (omega arith) (omega arith), ne-eqb c 95 (λ e. omega arith))
+letter-high c h =
+    rw (
+      above-it (code "a") c (code "z") (omega arith) (omega arith),
+      above-it (code "A") c (code "Z") (omega arith) (omega arith),
+      ne-eqb c (code "_") (λ e. omega arith),
+    )
 
 pub word-high : (c : ℕ) → 0x80 ≤ c → isWord c ≡ false
 unfolding isWord
-word-high c h = rw (letter-high c h, above-it 48 c 57 (omega arith) (omega arith))
+word-high c h = rw (letter-high c h, above-it (code "0") c (code "9") (omega arith) (omega arith))
 
 module _ (s : List ℕ) (p : ℕ) where
   pub word-end : length s ≤ p → p + wordLen (chars (drop p s)) ≡ p
@@ -55,6 +63,6 @@ pub word-run : Run isWord wordLen
 unfolding wordLen
 word-run = record { none = refl; next = λ c r. refl }
 
-pub feed-no-word : isWord 10 ≡ false
+pub feed-no-word : isWord (code "\n") ≡ false
 unfolding isWord isLetter
 feed-no-word = refl

@@ -11,19 +11,19 @@ ghost use Rattle.words.specs.Near.{nearRun};
 pub fn is_letter(b: u8) -> bool
     ensures { λ r. ⌜ r ≡ isLetter b ⌝ }
 {
-    if b < 65 {
+    if b < b'A' {
         return false;
     }
-    if b < 91 {
+    if b <= b'Z' {
         return true;
     }
-    if b == 95 {
+    if b == b'_' {
         return true;
     }
-    if b < 97 {
+    if b < b'a' {
         return false;
     }
-    b < 123
+    b <= b'z'
 }
 
 // For each of eight bytes 0x80 where it is no letter and no digit, else 0. A test's answer is the top bit of each byte: that of a sum
@@ -32,9 +32,12 @@ fn others(w: u64) -> u64
     ensures { λ r. ⌜ r ≡ lanes 8 other w ⌝ }
 {
     let low = w & 0x7F7F_7F7F_7F7F_7F7F;
+    // 0x20 makes a letter lower case; 0x1F is 0x80 - b'a', 0xFA is 0x80 + b'z'
     let lower = low | 0x2020_2020_2020_2020;
     let letter = (lower + 0x1F1F_1F1F_1F1F_1F1F) & (0xFAFA_FAFA_FAFA_FAFA - lower);
+    // 0x50 is 0x80 - b'0', 0xB9 is 0x80 + b'9'
     let digit = (low + 0x5050_5050_5050_5050) & (0xB9B9_B9B9_B9B9_B9B9 - low);
+    // 0x5F is b'_'
     let no_underscore = (low ^ 0x5F5F_5F5F_5F5F_5F5F) + 0x7F7F_7F7F_7F7F_7F7F;
     (no_underscore & !(letter | digit) | w) & 0x8080_8080_8080_8080
 }
@@ -79,8 +82,8 @@ pub fn near_run(src: &[u8], at: usize) -> Near
         };
     }
     let len = u64::trailing_zeros(marks) as usize / 8;
-    Near {
-        len,
-        number: bytes % (1u64 << (8 * len)),
-    }
+    let bits = 8 * len;
+    let above = 1u64 << bits;
+    let number = bytes % above;
+    Near { len, number }
 }

@@ -1,5 +1,6 @@
 -- `blanks::skip_line` meets its contract: a line feed, the tabs after it, and what is no blank.
 use Prim.Native.Nat.{_+_, _<_}
+use Prim.Native.Char.{code}
 use mathlib.Core.Path.{_≡_, sym, _∙_}
 use mathlib.Core.Bool.{true, not}
 use native.Mathlib.Omega.{arith}
@@ -19,10 +20,10 @@ byte-requires c κs = search needs
 
 -- the first test
 module _ (c : tie.Then1) where
-  tests : (eqb (c .before .byte .result) 10 ≡ true) × (not (c .before .before .before .args .mark) ≡ true)
-  tests = and-split (eqb (c .before .byte .result) 10) (not (c .before .before .before .args .mark)) (c .if1 .taken)
+  tests : (eqb (c .before .byte .result) (code "\n") ≡ true) × (not (c .before .before .before .args .mark) ≡ true)
+  tests = and-split (eqb (c .before .byte .result) (code "\n")) (not (c .before .before .before .args .mark)) (c .if1 .taken)
 
-  feed : getD (c .before .before .before .args .src .now) (c .before .before .before .args .at) 0 ≡ 10
+  feed : getD (c .before .before .before .args .src .now) (c .before .before .before .args .at) 0 ≡ code "\n"
   feed = sym (c .before .byte .ensures) ∙ eqb-true _ _ (tests .0)
 
   there : c .before .before .before .args .at < length (c .before .before .before .args .src .now)

@@ -29,8 +29,8 @@ mul-write c = search needs
 write-requires : tie.Need-write-requires
 write-requires c κs = search needs
 
-add-t11 : tie.Need-add-t11
-add-t11 c = search needs
+add-errors : tie.Need-add-errors
+add-errors c = search needs
 
 same-length-3 : tie.Need-same-length-3
 same-length-3 c = search needs
@@ -52,6 +52,6 @@ add-spec =
     returns-2
     mul-write
     write-requires
-    add-t11
+    add-errors
     same-length-3
     returns-3)

@@ -2,7 +2,7 @@
 use mathlib.Core.Path.{sym, _∙_}
 use native.Mathlib.Omega.{arith}
 use Rattle.basics.proofs.Lists.{reach}
-use Rattle.numbers.proofs.Readings.{rest-point, rest-plain}
+use Rattle.numbers.proofs.Numerals.{rest-point, rest-plain}
 use borrow.Author.Needs.{needs}
 use Rattle.numbers.proofs.decimal_rest.Statement.{statement}
 use Rattle.numbers.proofs.decimal_rest.Tie as tie

@@ -4,7 +4,7 @@ use native.Mathlib.Omega.{arith}
 use lib.ListN.{drop}
 use Rattle.utf8.specs.Chars.{chars}
 use Rattle.numbers.specs.Run.{strictRun}
-use Rattle.numbers.proofs.Readings.{exponent-bad, exponent-none, exponent-good}
+use Rattle.numbers.proofs.Numerals.{exponent-bad, exponent-none, exponent-good}
 use borrow.Author.Needs.{needs}
 use Rattle.numbers.proofs.exponent_digits.Statement.{statement}
 use Rattle.numbers.proofs.exponent_digits.Tie as tie

@@ -2,7 +2,7 @@
 use mathlib.Core.Path.{sym, _∙_}
 use native.Mathlib.Omega.{arith}
 use Rattle.basics.proofs.Lists.{reach}
-use Rattle.numbers.proofs.Readings.{finish-lower, finish-upper, finish-end}
+use Rattle.numbers.proofs.Numerals.{finish-lower, finish-upper, finish-end}
 use borrow.Author.Needs.{needs}
 use Rattle.numbers.proofs.finish_number.Statement.{statement}
 use Rattle.numbers.proofs.finish_number.Tie as tie

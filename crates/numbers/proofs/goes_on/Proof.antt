@@ -1,7 +1,7 @@
 -- `numbers::goes_on` meets its contract: by the base, and the byte.
 use mathlib.Core.Path.{sym, _∙_}
 use borrow.Author.Tests.{le-leb, lt-leb}
-use Rattle.numbers.proofs.Readings.{digit-next}
+use Rattle.numbers.proofs.Numerals.{digit-next}
 use borrow.Author.Needs.{needs}
 use Rattle.numbers.proofs.goes_on.Statement.{statement}
 use Rattle.numbers.proofs.goes_on.Tie as tie

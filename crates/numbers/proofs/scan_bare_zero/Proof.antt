@@ -3,7 +3,7 @@ use mathlib.Core.Path.{sym, ap, _∙_}
 use native.Mathlib.Omega.{arith}
 use Rattle.basics.proofs.Lists.{reach}
 use Rattle.digits.specs.Digit.{isDecimal}
-use Rattle.numbers.proofs.Readings.{bare-octal, bare-decimal}
+use Rattle.numbers.proofs.Numerals.{bare-octal, bare-decimal}
 use borrow.Author.Needs.{needs}
 use Rattle.numbers.proofs.scan_bare_zero.Statement.{statement}
 use Rattle.numbers.proofs.scan_bare_zero.Tie as tie

@@ -1,6 +1,6 @@
 -- `numbers::scan_decimal` meets its contract: by what the run says.
 use mathlib.Core.Path.{sym, ap, _∙_}
-use Rattle.numbers.proofs.Readings.{decimal-bad, decimal-good}
+use Rattle.numbers.proofs.Numerals.{decimal-bad, decimal-good}
 use borrow.Author.Needs.{needs}
 use Rattle.numbers.proofs.scan_decimal.Statement.{statement}
 use Rattle.numbers.proofs.scan_decimal.Tie as tie

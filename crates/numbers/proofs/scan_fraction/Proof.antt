@@ -1,6 +1,6 @@
 -- `numbers::scan_fraction` meets its contract: by what the run says.
 use mathlib.Core.Path.{sym, ap, _∙_}
-use Rattle.numbers.proofs.Readings.{fraction-bad, fraction-good}
+use Rattle.numbers.proofs.Numerals.{fraction-bad, fraction-good}
 use borrow.Author.Needs.{needs}
 use Rattle.numbers.proofs.scan_fraction.Statement.{statement}
 use Rattle.numbers.proofs.scan_fraction.Tie as tie

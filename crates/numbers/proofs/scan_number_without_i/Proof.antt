@@ -3,7 +3,7 @@ use mathlib.Core.Path.{sym, _∙_}
 use native.Mathlib.Omega.{arith}
 use borrow.Author.Needs.{needs}
 use Rattle.basics.proofs.Lists.{reach}
-use Rattle.numbers.proofs.Readings.{without-point, without-zero, without-other}
+use Rattle.numbers.proofs.Numerals.{without-point, without-zero, without-other}
 use Rattle.numbers.proofs.scan_number_without_i.Statement.{statement}
 use Rattle.numbers.proofs.scan_number_without_i.Tie as tie
 

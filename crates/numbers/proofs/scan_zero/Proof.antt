@@ -1,13 +1,18 @@
 -- `numbers::scan_zero` meets its contract: each arm is a case of the definition.
-use Prim.Native.Nat.{_+_}
-use mathlib.Core.Path.{sym, ap, _∙_}
+use Prim.Native.Nat.{ℕ, _+_, _<_}
+use Prim.Native.Char.{code}
+use mathlib.Core.Path.{_≡_, refl, sym, ap, _∙_}
 use native.Mathlib.Omega.{arith}
 use lib.Dec.{lit<}
+use lib.ListN.{drop}
 use borrow.Author.Tests.{ne-eqb}
 use Rattle.basics.proofs.Lists.{reach}
+use Rattle.utf8.specs.Chars.{chars}
+use Rattle.errors.specs.Numbers.{BAD-BINARY, BAD-OCTAL, BAD-HEXADECIMAL}
+use Rattle.numbers.specs.declared.Spelling.{Spelling}
 use Rattle.numbers.specs.declared.Spelling.the-variants.{AsRead, LowerPrefix}
-use Rattle.numbers.specs.Number.{numberAt}
-use Rattle.numbers.proofs.Readings.{zero-is, zero-prefix}
+use Rattle.numbers.specs.Number.{after, prefixed, zeroBy, leadingZero, numberAt}
+use Rattle.numbers.proofs.Numerals.{zero-is, zero-prefix}
 use borrow.Author.Needs.{needs}
 use Rattle.numbers.proofs.scan_zero.Statement.{statement}
 use Rattle.numbers.proofs.scan_zero.Tie as tie
@@ -57,47 +62,36 @@ scan-prefixed-requires-6 c κs = search needs
 scan-bare-zero-requires : tie.Need-scan-bare-zero-requires
 scan-bare-zero-requires c κs = search needs
 
+-- the byte after the 0 is a prefix's letter x
+with-prefix : (c : tie.After-byte) (x : ℕ) → c .byte .result ≡ x → 0 < x → x < 0x80 → (base error : ℕ) (sp : Spelling)
+    → let a = c .before .before .args in
+    let r = chars (drop (a .at) (a .src .now)) in
+    zeroBy x r ≡ after 2 (prefixed base error sp (drop 2 r))
+    → numberAt (a .at + 2) (prefixed base error sp (chars (drop (a .at + 2) (a .src .now)))) ≡ numberAt (a .at) (leadingZero r)
+with-prefix c x e l h base error sp z =
+    let a = c .before .before .args in
+    let y = sym (c .byte .ensures) ∙ e in
+    let zero = c .before .before .pre in
+    sym (ap (numberAt (a .at)) (zero-is (a .src .now) (a .at) zero ∙ ap (λ b. zeroBy b (chars (drop (a .at) (a .src .now)))) y ∙ z)
+    ∙ zero-prefix (a .src .now) (a .at) zero x y l h base error sp)
+
 returns : tie.Need-returns
-returns c =
-    let a = c .before .before .before .before .args in
-    let y = sym (c .before .before .byte .ensures) ∙ c .before .match .keys1 in
-    c .scan-prefixed .ensures
-    ∙ sym (ap (numberAt (a .at)) (zero-is (a .src .now) (a .at) (c .before .before .before .before .pre) ∙ rw y) ∙ zero-prefix (a .src .now) (a .at) (c .before .before .before .before .pre) 120 y (lit< tt) (lit< tt) 16 3 AsRead)
+returns c = c .scan-prefixed .ensures ∙ with-prefix (c .before .before) (code "x") (c .before .match .keys1) (lit< tt) (lit< tt) 16 BAD-HEXADECIMAL AsRead refl
 
 returns-2 : tie.Need-returns-2
-returns-2 c =
-    let a = c .before .before .before .before .args in
-    let y = sym (c .before .before .byte .ensures) ∙ c .before .match .keys2 in
-    c .scan-prefixed2 .ensures
-    ∙ sym (ap (numberAt (a .at)) (zero-is (a .src .now) (a .at) (c .before .before .before .before .pre) ∙ rw y) ∙ zero-prefix (a .src .now) (a .at) (c .before .before .before .before .pre) 88 y (lit< tt) (lit< tt) 16 3 LowerPrefix)
+returns-2 c = c .scan-prefixed2 .ensures ∙ with-prefix (c .before .before) (code "X") (c .before .match .keys2) (lit< tt) (lit< tt) 16 BAD-HEXADECIMAL LowerPrefix refl
 
 returns-3 : tie.Need-returns-3
-returns-3 c =
-    let a = c .before .before .before .before .args in
-    let y = sym (c .before .before .byte .ensures) ∙ c .before .match .keys3 in
-    c .scan-prefixed3 .ensures
-    ∙ sym (ap (numberAt (a .at)) (zero-is (a .src .now) (a .at) (c .before .before .before .before .pre) ∙ rw y) ∙ zero-prefix (a .src .now) (a .at) (c .before .before .before .before .pre) 111 y (lit< tt) (lit< tt) 8 2 AsRead)
+returns-3 c = c .scan-prefixed3 .ensures ∙ with-prefix (c .before .before) (code "o") (c .before .match .keys3) (lit< tt) (lit< tt) 8 BAD-OCTAL AsRead refl
 
 returns-4 : tie.Need-returns-4
-returns-4 c =
-    let a = c .before .before .before .before .args in
-    let y = sym (c .before .before .byte .ensures) ∙ c .before .match .keys4 in
-    c .scan-prefixed4 .ensures
-    ∙ sym (ap (numberAt (a .at)) (zero-is (a .src .now) (a .at) (c .before .before .before .before .pre) ∙ rw y) ∙ zero-prefix (a .src .now) (a .at) (c .before .before .before .before .pre) 79 y (lit< tt) (lit< tt) 8 2 LowerPrefix)
+returns-4 c = c .scan-prefixed4 .ensures ∙ with-prefix (c .before .before) (code "O") (c .before .match .keys4) (lit< tt) (lit< tt) 8 BAD-OCTAL LowerPrefix refl
 
 returns-5 : tie.Need-returns-5
-returns-5 c =
-    let a = c .before .before .before .before .args in
-    let y = sym (c .before .before .byte .ensures) ∙ c .before .match .keys5 in
-    c .scan-prefixed5 .ensures
-    ∙ sym (ap (numberAt (a .at)) (zero-is (a .src .now) (a .at) (c .before .before .before .before .pre) ∙ rw y) ∙ zero-prefix (a .src .now) (a .at) (c .before .before .before .before .pre) 98 y (lit< tt) (lit< tt) 2 1 AsRead)
+returns-5 c = c .scan-prefixed5 .ensures ∙ with-prefix (c .before .before) (code "b") (c .before .match .keys5) (lit< tt) (lit< tt) 2 BAD-BINARY AsRead refl
 
 returns-6 : tie.Need-returns-6
-returns-6 c =
-    let a = c .before .before .before .before .args in
-    let y = sym (c .before .before .byte .ensures) ∙ c .before .match .keys6 in
-    c .scan-prefixed6 .ensures
-    ∙ sym (ap (numberAt (a .at)) (zero-is (a .src .now) (a .at) (c .before .before .before .before .pre) ∙ rw y) ∙ zero-prefix (a .src .now) (a .at) (c .before .before .before .before .pre) 66 y (lit< tt) (lit< tt) 2 1 LowerPrefix)
+returns-6 c = c .scan-prefixed6 .ensures ∙ with-prefix (c .before .before) (code "B") (c .before .match .keys6) (lit< tt) (lit< tt) 2 BAD-BINARY LowerPrefix refl
 
 returns-7 : tie.Need-returns-7
 returns-7 c =

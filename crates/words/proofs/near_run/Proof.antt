@@ -51,24 +51,24 @@ below c = zeros-lt 64 (c .before .others .result) (search needs) (search needs)
 cast-len : tie.Need-cast-len
 cast-len c = omega (arith, below c)
 
-mul-t8 : tie.Need-mul-t8
-mul-t8 c = omega (arith, below c)
+mul-bits : tie.Need-mul-bits
+mul-bits c = omega (arith, below c)
 
-shl-t10 : tie.Need-shl-t10
-shl-t10 c = omega (arith, below c)
+shl-above : tie.Need-shl-above
+shl-above c = omega (arith, below c)
 
 shift : (k : ℕ) → k < 64 → (1 * 2 ^ k) % 2 ^ 64 ≡ 2 ^ k
 shift k l = shl-exact 1 k 64 (lit< tt) (omega arith) ∙ omega arith
 
-rem-t11 : tie.Need-rem-t11
-rem-t11 c = rw (shift _ (shl-t10 c)) (pow-pos _)
+rem-number : tie.Need-rem-number
+rem-number c = rw (shift _ (shl-above c)) (pow-pos _)
 
 returns-2 : tie.Need-returns-2
 returns-2 c =
     let a = c .before .before .before .before .args in
     let len = trailingZeros 64 (c .before .others .result) / 8 in
     near (a .src .now) (a .at) len _ (run (c .before))
-    (ap (λ x. c .before .before .eight .result % x) (shift _ (shl-t10 c))
+    (ap (λ x. c .before .before .eight .result % x) (shift _ (shl-above c))
     ∙ ap (λ x. x % 2 ^ (8 * len)) (c .before .before .eight .ensures)
     ∙ number-mod (drop (a .at) (a .src .now)) len
     (bytes-drop (a .at) (a .src .now) (λ i. c .before .before .before .shared-slice-known .given i .fits)) (omega (arith, below c)))
@@ -76,4 +76,4 @@ returns-2 c =
 pub near-run-spec : {M : Type 1} → statement M
 near-run-spec =
     tie.close
-    (tie.spec eight-requires others-requires returns cast-len mul-t8 shl-t10 rem-t11 returns-2)
+    (tie.spec eight-requires others-requires returns cast-len mul-bits shl-above rem-number returns-2)

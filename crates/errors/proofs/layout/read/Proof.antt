@@ -1,60 +1,60 @@
 -- `layout::read` meets its contract: each number is read where the layout has it.
 use mathlib.Core.Path.{refl}
 use borrow.Author.Needs.{needs}
-use Rattle.errors.specs.Layout.{errorAt}
+use Rattle.errors.specs.Layout.{recordAt}
 use Rattle.errors.proofs.layout.read.Statement.{statement}
 use Rattle.errors.proofs.layout.read.Tie as tie
 
-mul-t3 : tie.Need-mul-t3
-mul-t3 c = search needs
+mul-offset : tie.Need-mul-offset
+mul-offset c = search needs
 
-shared-slice-read-t5 : tie.Need-shared-slice-read-t5
-shared-slice-read-t5 c = search needs
+shared-slice-read-offset : tie.Need-shared-slice-read-offset
+shared-slice-read-offset c = search needs
 
-add-t6 : tie.Need-add-t6
-add-t6 c = search needs
+add-line : tie.Need-add-line
+add-line c = search needs
 
-mul-t7 : tie.Need-mul-t7
-mul-t7 c = search needs
+mul-line : tie.Need-mul-line
+mul-line c = search needs
 
-shared-slice-read-t9 : tie.Need-shared-slice-read-t9
-shared-slice-read-t9 c = search needs
+shared-slice-read-line : tie.Need-shared-slice-read-line
+shared-slice-read-line c = search needs
 
-add-t10 : tie.Need-add-t10
-add-t10 c = search needs
+add-column : tie.Need-add-column
+add-column c = search needs
 
-mul-t11 : tie.Need-mul-t11
-mul-t11 c = search needs
+mul-column : tie.Need-mul-column
+mul-column c = search needs
 
-shared-slice-read-t13 : tie.Need-shared-slice-read-t13
-shared-slice-read-t13 c = search needs
+shared-slice-read-column : tie.Need-shared-slice-read-column
+shared-slice-read-column c = search needs
 
-add-t14 : tie.Need-add-t14
-add-t14 c = search needs
+add-number : tie.Need-add-number
+add-number c = search needs
 
-mul-t15 : tie.Need-mul-t15
-mul-t15 c = search needs
+mul-number : tie.Need-mul-number
+mul-number c = search needs
 
-shared-slice-read-t17 : tie.Need-shared-slice-read-t17
-shared-slice-read-t17 c = search needs
+shared-slice-read-number : tie.Need-shared-slice-read-number
+shared-slice-read-number c = search needs
 
 returns : tie.Need-returns
-unfolding errorAt
+unfolding recordAt
 returns c = refl
 
 pub read-spec : {M : Type 1} → statement M
 read-spec =
     tie.close
     (tie.spec
-    mul-t3
-    shared-slice-read-t5
-    add-t6
-    mul-t7
-    shared-slice-read-t9
-    add-t10
-    mul-t11
-    shared-slice-read-t13
-    add-t14
-    mul-t15
-    shared-slice-read-t17
+    mul-offset
+    shared-slice-read-offset
+    add-line
+    mul-line
+    shared-slice-read-line
+    add-column
+    mul-column
+    shared-slice-read-column
+    add-number
+    mul-number
+    shared-slice-read-number
     returns)

@@ -7,7 +7,8 @@ use borrow.Author.Needs.{needs}
 use lib.ListN.{length, drop, getD}
 use Rattle.utf8.specs.Chars.{chars}
 use Rattle.digits.specs.Digit.{digitVal}
-use Rattle.numbers.specs.Run.{digitRun, digitsAt}
+use Rattle.numbers.specs.Run.{digitRun}
+use Rattle.numbers.specs.Steps.{digitsAt}
 use Rattle.numbers.proofs.Runs.{digits-more, digits-stop, run-end, run-digit, run-other, run-under, run-double}
 use Rattle.numbers.proofs.run.scan_digits.Statement.{statement}
 use Rattle.numbers.proofs.run.scan_digits.Tie as tie

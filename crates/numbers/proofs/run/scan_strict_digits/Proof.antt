@@ -1,6 +1,6 @@
 -- `numbers::run::scan_strict_digits` meets its contract: by the byte at the place.
 use mathlib.Core.Path.{sym, ap, _∙_}
-use Rattle.numbers.specs.Run.{digitsAt}
+use Rattle.numbers.specs.Steps.{digitsAt}
 use Rattle.numbers.proofs.Runs.{strict-under, strict-other, digits-stop}
 use borrow.Author.Needs.{needs}
 use Rattle.numbers.proofs.run.scan_strict_digits.Statement.{statement}

@@ -64,8 +64,8 @@ mul-table c = omega (arith, fit _ _ (fitted (c .before .before .before .before .
 slice-write-table : tie.Need-slice-write-table
 slice-write-table c = omega (arith, fit _ _ (fitted (c .before .before .before .before .before)))
 
-add-t10 : tie.Need-add-t10
-add-t10 c = omega (arith, fit _ _ (fitted (c .before .before .before .before .before)))
+add-count : tie.Need-add-count
+add-count c = omega (arith, fit _ _ (fitted (c .before .before .before .before .before)))
 
 same-length-5 : tie.Need-same-length-5
 same-length-5 c = search needs
@@ -92,6 +92,6 @@ add-line-spec =
     returns-4
     mul-table
     slice-write-table
-    add-t10
+    add-count
     same-length-5
     returns-5)

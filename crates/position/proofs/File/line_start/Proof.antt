@@ -44,8 +44,8 @@ returns-5 c =
     sym
     (start-above _ _ _ _ (fitted (c .before .before .before .before .before .before .before)) (c .before .before .before .before .before .if2 .left) (omega arith) (c .before .before .if4 .left) (c .if5 .taken))
 
-add-t11 : tie.Need-add-t11
-add-t11 c = omega (arith, fit _ _ (fitted (c .before .before .before .before .before .before .before .before)))
+add-position : tie.Need-add-position
+add-position c = omega (arith, fit _ _ (fitted (c .before .before .before .before .before .before .before .before)))
 
 returns-6 : tie.Need-returns-6
 returns-6 c =
@@ -65,5 +65,5 @@ line-start-spec =
     mul-start
     shared-slice-read-start
     returns-5
-    add-t11
+    add-position
     returns-6)

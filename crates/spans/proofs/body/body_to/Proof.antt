@@ -1,4 +1,4 @@
--- `bodies::body::body_to` meets its contract. The loop's invariant: what was read and what is left make the whole.
+-- `spans::body::body_to` meets its contract. The loop's invariant: what was read and what is left make the whole.
 use Prim.Native.Nat.{_-_}
 use mathlib.Core.Path.{refl, sym, _∙_}
 use native.Mathlib.Omega.{arith}
@@ -7,13 +7,13 @@ use Rattle.utf8.specs.Chars.{chars}
 use Rattle.spans.specs.Span.{toStop}
 use Rattle.spans.specs.Body.{stopBody}
 use Rattle.spans.specs.Plain.{PlainRun}
-use Rattle.spans.proofs.Bodies.{Reading, reading-start, reading-end, reading-last, grown-end, reading-next, stop-last, stop-more}
-use Rattle.spans.proofs.Blocks.{block-true, skipped, reading-plain}
+use Rattle.spans.proofs.Bodies.{PartRead, part-start, part-end, part-last, grown-end, part-next, stop-last, stop-more}
+use Rattle.spans.proofs.Blocks.{block-true, skipped, part-plain}
 use Rattle.spans.proofs.body.body_to.Statement.{statement}
 use Rattle.spans.proofs.body.body_to.Tie as tie
 
 abbrev Inv-loop : tie.InvT-loop
-Inv-loop src at stop body₀ body = Reading (stopBody stop at (chars (drop at src))) (toStop stop) src body
+Inv-loop src at stop body₀ body = PartRead (stopBody stop at (chars (drop at src))) (toStop stop) src body
 
 abbrev μ-loop : tie.MeasureT-loop
 μ-loop src at stop body₀ body = length src - body .end
@@ -22,7 +22,7 @@ empty-requires : tie.Need-empty-requires Inv-loop μ-loop
 empty-requires c κs = tt
 
 loop-holds : tie.Need-loop-holds Inv-loop μ-loop
-loop-holds c = reading-start (toStop (c .before .before .args .stop)) _ _ _ (c .empty .ensures)
+loop-holds c = part-start (toStop (c .before .before .args .stop)) _ _ _ (c .empty .ensures)
 
 is-block-requires : tie.Need-is-block-requires Inv-loop μ-loop
 is-block-requires c κs = tt
@@ -48,7 +48,7 @@ loop-again c =
     let l = c .before .before .before .before .before in
     let a = l .before .before .before .args in
     let s = a .src .now in
-    reading-plain _ (toStop (a .stop)) (a .stop) s (λ p h e r. stop-more s p h r (a .stop) (l .before .before .before .pre) e)
+    part-plain _ (toStop (a .stop)) (a .stop) s (λ p h e r. stop-more s p h r (a .stop) (l .before .before .before .pre) e)
     16 (l .loop .body) (found (c .before)) (l .loop .inv)
 
 run-len-requires : tie.Need-run-len-requires Inv-loop μ-loop
@@ -64,12 +64,12 @@ add-body-4 c = let i = c .before .before .before .before .before .before .loop .
 after-run : (c : tie.After-struct-known3 Inv-loop μ-loop)
     → let l = c .before .before .before .before .before .before in
     let a = l .before .before .before .args in
-    Reading (stopBody (a .stop) (a .at) (chars (drop (a .at) (a .src .now)))) (toStop (a .stop)) (a .src .now) (skipped (l .loop .body) (c .before .run-len .result))
+    PartRead (stopBody (a .stop) (a .at) (chars (drop (a .at) (a .src .now)))) (toStop (a .stop)) (a .src .now) (skipped (l .loop .body) (c .before .run-len .result))
 after-run c =
     let l = c .before .before .before .before .before .before in
     let a = l .before .before .before .args in
     let s = a .src .now in
-    reading-plain _ (toStop (a .stop)) (a .stop) s (λ p h e r. stop-more s p h r (a .stop) (l .before .before .before .pre) e)
+    part-plain _ (toStop (a .stop)) (a .stop) s (λ p h e r. stop-more s p h r (a .stop) (l .before .before .before .pre) e)
     (c .before .run-len .result) (l .loop .body) (c .before .run-len .ensures .0) (l .loop .inv)
 
 add-closes : tie.Need-add-closes Inv-loop μ-loop
@@ -84,9 +84,10 @@ grow-requires c κs = (c .before .before .before .run-len .ensures .1 (c .before
 returns : tie.Need-returns Inv-loop μ-loop
 returns c =
     let t = c .before .before .before in
+    let l = t .before .before .before .before .before .before .before in
     let more = t .before .before .run-len .ensures .1 (t .if3 .taken) in
-    reading-last _ _ _ _ (after-run (t .before)) more _ _ (c .before .grow .ensures) (c .if4 .taken)
-    (λ r. stop-last _ _ more r _ (t .before .before .before .before .before .before .before .before .before .before .pre) (c .if4 .taken))
+    part-last _ _ _ _ (after-run (t .before)) more _ _ (c .before .grow .ensures) (c .if4 .taken)
+    (λ r. stop-last _ _ more r _ (l .before .before .before .pre) (c .if4 .taken))
 
 loop-less-2 : tie.Need-loop-less-2 Inv-loop μ-loop
 loop-less-2 c =
@@ -99,7 +100,7 @@ loop-again-2 c =
     let t = c .before .before .before in
     let l = t .before .before .before .before .before .before .before in
     let more = t .before .before .run-len .ensures .1 (t .if3 .taken) in
-    reading-next _ _ _ _ (after-run (t .before)) more _ _ (c .before .grow .ensures) (c .if4 .left)
+    part-next _ _ _ _ (after-run (t .before)) more _ _ (c .before .grow .ensures) (c .if4 .left)
     (toStop (l .before .before .before .args .stop))
     (λ r. stop-more _ _ more r _ (l .before .before .before .pre) (c .if4 .left))
 
@@ -111,7 +112,7 @@ loop-again-3 c = after-run (c .before)
 
 returns-2 : tie.Need-returns-2 Inv-loop μ-loop
 unfolding toStop
-returns-2 c = reading-end _ _ _ _ (c .before .before .loop .inv) refl (c .if1 .left)
+returns-2 c = part-end _ _ _ _ (c .before .before .loop .inv) refl (c .if1 .left)
 
 pub body-to-spec : {M : Type 1} → statement M
 body-to-spec =

@@ -1,4 +1,4 @@
--- `bodies::line::blank_to_end` meets its contract. The loop's invariant: what is left of the text gives the answer.
+-- `spans::line::blank_to_end` meets its contract. The loop's invariant: what is left of the text gives the answer.
 use Prim.Native.Nat.{_-_}
 use mathlib.Core.Path.{_≡_, refl, sym, _∙_}
 use native.Mathlib.Omega.{arith}

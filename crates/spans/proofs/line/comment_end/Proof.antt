@@ -1,4 +1,4 @@
--- `bodies::line::comment_end` meets its contract. The loop's invariant: what is left of the text gives the answer.
+-- `spans::line::comment_end` meets its contract. The loop's invariant: what is left of the text gives the answer.
 use Prim.Native.Nat.{_-_, _<_}
 use mathlib.Core.Path.{_≡_, refl, sym, _∙_}
 use mathlib.Core.Bool.{false}
@@ -8,7 +8,7 @@ use lib.ListN.{length, drop}
 use Rattle.utf8.specs.Chars.{chars, charAt}
 use Rattle.utf8.proofs.First.{there-least}
 use Rattle.reader.specs.Read.{readPlace}
-use Rattle.spans.specs.Line.{stopFrom}
+use Rattle.spans.specs.Steps.{stopFrom}
 use Rattle.spans.proofs.Lines.{stop-end, stop-lf, stop-closed, stop-next}
 use Rattle.spans.proofs.line.comment_end.Statement.{statement}
 use Rattle.spans.proofs.line.comment_end.Tie as tie

@@ -1,4 +1,4 @@
--- `bodies::line::ends_line` meets its contract: by where and how the search stopped.
+-- `spans::line::ends_line` meets its contract: by where and how the search stopped.
 use mathlib.Core.Path.{sym, ap, _∙_}
 use Rattle.spans.proofs.Lines.{lineEnds, ends-line-of}
 use borrow.Author.Needs.{needs}

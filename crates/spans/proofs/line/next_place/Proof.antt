@@ -1,4 +1,4 @@
--- `bodies::line::next_place` meets its contract: a byte of ASCII is a character.
+-- `spans::line::next_place` meets its contract: a byte of ASCII is a character.
 use borrow.Author.Needs.{needs}
 use Rattle.utf8.proofs.First.{charAt-ascii}
 use Rattle.reader.specs.Read.{readPlace}

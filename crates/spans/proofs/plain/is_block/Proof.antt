@@ -1,4 +1,4 @@
--- `bodies::plain::is_block` meets its contract. The loop's invariant: `any` says whether one of the bytes so far is special.
+-- `spans::plain::is_block` meets its contract. The loop's invariant: `any` says whether one of the bytes so far is special.
 use Prim.Native.Nat.{_+_, _-_, _≤_}
 use mathlib.Core.Path.{_≡_, refl, sym}
 use native.Mathlib.Omega.{arith}

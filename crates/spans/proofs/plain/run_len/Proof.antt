@@ -1,4 +1,4 @@
--- `bodies::plain::run_len` meets its contract: nothing overflows, and each byte is marked by itself.
+-- `spans::plain::run_len` meets its contract: nothing overflows, and each byte is marked by itself.
 use mathlib.Core.Path.{sym, _∙_}
 use native.Mathlib.Nat.{lt-of-le-of-lt}
 use native.Mathlib.Omega.{arith}
