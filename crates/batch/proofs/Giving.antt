@@ -80,7 +80,7 @@ module _ (src : List ℕ) (at safe position : ℕ) (tokens : List ℕ) (to : ℕ
     identifier i =
         let whole : at + (end - at) ≡ end = omega (arith, e) in
         gives-plain kind end false true AsRead (end - at)
-        (λ m. identifier-said src at end kind e k i ∙ ap (placed src at) (word-is m src at h l)) known no-string near
+        (λ m. identifier-said src at end kind e k l i ∙ ap (placed src at) (word-is m src at h l)) known no-string near
         (is ∙ rw i) (w ∙ rw (eq-eqb kind IDENT i, whole))
 
     keyword : (kind ≡ IDENT → ⊥) → Gives src at safe position tokens to r tokens′

@@ -19,6 +19,7 @@ use Rattle.lexer.specs.declared.lexed.Value.{Value}
 use Rattle.lexer.specs.declared.lexed.Value.the-variants.{Empty as NoValue, Interpreted, Raw}
 use Rattle.lexer.specs.declared.lexed.Lexed.{Lexed}
 use Rattle.lexer.specs.Lexeme.{Lexeme}
+use Rattle.lexer.specs.Making.{textWay, valueWay}
 
 -- the text for each way of making it, from the characters read, and for a number from their bytes
 abbrev pub textOf : Text → List Char → List ℕ → List ℕ
@@ -42,7 +43,10 @@ pub record Placed : Type 0 where
   -- how many of its characters are line feeds and stray bytes
   pub lfs : ℕ
   pub strays : ℕ
-  -- how many bytes text and value have
+  -- how text and value are made of its characters
+  pub textMaking : Text
+  pub valueMaking : Value
+  -- how many bytes they have
   pub textLength : ℕ
   pub valueLength : ℕ
   -- are they other bytes than those of the source?
@@ -66,6 +70,8 @@ placedIn at x cs bytes =
       end = at + widths cs;
       lfs = count isLf cs;
       strays = count isStray cs;
+      textMaking = textWay cs x;
+      valueMaking = valueWay cs x;
       textLength = length (x .text);
       valueLength = length (x .value);
       textDiffers = textDiffersIn (x .text) bytes;
@@ -101,6 +107,8 @@ said s at x =
       end = x .end;
       lfs = x .lfs;
       strays = x .strays;
+      textMaking = x .text;
+      valueMaking = x .value;
       textLength = lengthOf (x .«text_bytes») (x .strays) (x .«text_differs»);
       valueLength = lengthOf (x .«value_bytes») (x .strays) (x .«value_differs»);
       textDiffers = x .«text_differs»;

@@ -19,10 +19,11 @@ ghost use Rattle.utf8.specs.Chars.{chars};
 ghost use Rattle.digits.specs.Digit.{isDecimal};
 ghost use Rattle.lexer.specs.Lex.{lexIllegal, lexOperator, lexDot, lexSlash, lexToken};
 ghost use Rattle.lexer.specs.Placed.{said, placed};
+ghost use Rattle.lexer.specs.Made.{StartsOther};
 
 // A single character that starts no token.
 fn lex_illegal(src: &[u8], at: usize, mark: bool) -> Lexed
-    requires { ⌜ (at < length (now src)) × (eqb (getD (now src) at 0) 10 ≡ false) ⌝ }
+    requires { ⌜ StartsOther (now src) at ⌝ }
     ensures { λ r. ⌜ said (now (src .entry)) at r ≡ placed (now (src .entry)) at (lexIllegal mark 1 (chars (drop at (now (src .entry))))) ⌝ }
 {
     let c = reader::char_from(src, at);
@@ -37,7 +38,7 @@ fn lex_illegal(src: &[u8], at: usize, mark: bool) -> Lexed
 
 // The operator at a place, or a character that starts none.
 fn lex_operator(src: &[u8], at: usize, mark: bool) -> Lexed
-    requires { ⌜ (at < length (now src)) × (eqb (getD (now src) at 0) 10 ≡ false) ⌝ }
+    requires { ⌜ StartsOther (now src) at ⌝ }
     ensures { λ r. ⌜ said (now (src .entry)) at r ≡ placed (now (src .entry)) at (lexOperator mark (chars (drop at (now (src .entry))))) ⌝ }
 {
     let o = operators::scan_operator(src, at);
@@ -90,7 +91,7 @@ fn is_two_points(src: &[u8], at: usize) -> bool
 
 // A token that is no word, number or literal: a comment, two points, or an operator.
 fn lex_other(src: &[u8], at: usize, second: u8, mark: bool) -> Lexed
-    requires { ⌜ (at < length (now src)) × (eqb (getD (now src) at 0) 10 ≡ false) × (getD (now src) (at + 1) 0 ≡ second)
+    requires { ⌜ StartsOther (now src) at × (getD (now src) (at + 1) 0 ≡ second)
         × (eqb (getD (now src) at 0) 46 && isDecimal second ≡ false) ⌝ }
     ensures { λ r. ⌜ said (now (src .entry)) at r ≡ placed (now (src .entry)) at
         (cond (eqb (getD (now (src .entry)) at 0) 46) (lexDot mark (chars (drop at (now (src .entry)))))

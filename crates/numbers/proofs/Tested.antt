@@ -28,16 +28,16 @@ use Rattle.numbers.proofs.Runs.{Plain, plain-none, plain-more, plain-wi
 abbrev pub isNumeric : ℕ → Bool
 isNumeric kind = among kind (ILLEGAL ∷ INT ∷ FLOAT ∷ IMAG ∷ [])
 
--- what a spelling tells of the first n characters: a prefix in upper case, a 0, an E
+-- what a spelling tells of the first n characters: a prefix in upper case that is no E, a 0, an E
 abbrev pub Spelled : Spelling → List Char → ℕ → Type 0
 Spelled AsRead r n = Unit
-Spelled LowerPrefix r n = (2 ≤ n) × (between 65 (getD r 1 ended .code) 90 ≡ true)
+Spelled LowerPrefix r n = (2 ≤ n) × (between 65 (getD r 1 ended .code) 90 ≡ true) × (getD r 1 ended .code ≢ 69)
 Spelled OctalPrefix r n = 1 ≤ n
 Spelled LowerExponent r n = (i : ℕ) × (i < n) × (getD r i ended .code ≡ 69)
 
 spelled-on : (sp : Spelling) (r : List Char) (n m : ℕ) → Spelled sp r n → Spelled sp r (n + m)
 spelled-on AsRead r n m h = tt
-spelled-on LowerPrefix r n m h = (omega (arith, h .0), h .1)
+spelled-on LowerPrefix r n m h = (omega (arith, h .0), h .1, h .2)
 spelled-on OctalPrefix r n m h = omega arith
 spelled-on LowerExponent r n m h = (h .0, omega (arith, h .1), h .2)
 
@@ -180,11 +180,11 @@ module _ (r : List Char) where
       unfolding leadingZero
       zero-read =
           cond-ind Read (eqb (peek (drop 1 r)) 120) _ _ (letter-read 120 16 3 AsRead (lit< tt) (lit< tt) (λ z. omega arith) (lit≤ tt) (λ _. tt))
-          (λ _. cond-ind Read (eqb (peek (drop 1 r)) 88) _ _ (letter-read 88 16 3 LowerPrefix (lit< tt) (lit< tt) (λ z. omega arith) (lit≤ tt) (λ z. (lit≤ tt, rw z)))
+          (λ _. cond-ind Read (eqb (peek (drop 1 r)) 88) _ _ (letter-read 88 16 3 LowerPrefix (lit< tt) (lit< tt) (λ z. omega arith) (lit≤ tt) (λ z. (lit≤ tt, rw z, λ e. omega (arith, z, e))))
           (λ _. cond-ind Read (eqb (peek (drop 1 r)) 111) _ _ (letter-read 111 8 2 AsRead (lit< tt) (lit< tt) (λ z. omega arith) (lit≤ tt) (λ _. tt))
-          (λ _. cond-ind Read (eqb (peek (drop 1 r)) 79) _ _ (letter-read 79 8 2 LowerPrefix (lit< tt) (lit< tt) (λ z. omega arith) (lit≤ tt) (λ z. (lit≤ tt, rw z)))
+          (λ _. cond-ind Read (eqb (peek (drop 1 r)) 79) _ _ (letter-read 79 8 2 LowerPrefix (lit< tt) (lit< tt) (λ z. omega arith) (lit≤ tt) (λ z. (lit≤ tt, rw z, λ e. omega (arith, z, e))))
           (λ _. cond-ind Read (eqb (peek (drop 1 r)) 98) _ _ (letter-read 98 2 1 AsRead (lit< tt) (lit< tt) (λ z. omega arith) (lit≤ tt) (λ _. tt))
-          (λ _. cond-ind Read (eqb (peek (drop 1 r)) 66) _ _ (letter-read 66 2 1 LowerPrefix (lit< tt) (lit< tt) (λ z. omega arith) (lit≤ tt) (λ z. (lit≤ tt, rw z))) (λ _. bare-read))))))
+          (λ _. cond-ind Read (eqb (peek (drop 1 r)) 66) _ _ (letter-read 66 2 1 LowerPrefix (lit< tt) (lit< tt) (λ z. omega arith) (lit≤ tt) (λ z. (lit≤ tt, rw z, λ e. omega (arith, z, e)))) (λ _. bare-read))))))
 
   pub without-read : Read (withoutI r)
   unfolding withoutI

@@ -14,6 +14,7 @@ use Rattle.lexer.specs.Placed.{said, placed}
 use Rattle.lexer.proofs.Said.{semicolon-said}
 use Rattle.lexer.proofs.Ascii.{ascii-none}
 use Rattle.lexer.proofs.Tokens.{bare-said}
+use Rattle.lexer.proofs.Ways.{number-there}
 use Rattle.lexer.proofs.Dispatch.{end-marked, end-unmarked, word-is, number-is, feed-is, string-is, char-is, raw-is, other-is}
 use Rattle.lexer.proofs.lex.lex_token.Statement.{statement}
 use Rattle.lexer.proofs.lex.lex_token.Tie as tie
@@ -50,7 +51,7 @@ is-letter-requires : tie.Need-is-letter-requires
 is-letter-requires c κs = search needs
 
 lex-word-requires : tie.Need-lex-word-requires
-lex-word-requires c κs = search needs
+lex-word-requires c κs = (search needs, sym (c .before .is-letter .ensures) ∙ c .if3 .taken)
 
 returns-3 : tie.Need-returns-3
 returns-3 c =
@@ -62,7 +63,10 @@ starts-number-requires : tie.Need-starts-number-requires
 starts-number-requires c κs = search needs
 
 lex-number-requires : tie.Need-lex-number-requires
-lex-number-requires c κs = search needs
+lex-number-requires c κs =
+    let byte = c .before .before .before .before .byte in
+    let a = c .before .before .before .before .before .before .before .before .args in
+    (search needs, number-there (a .src .now) (a .at) (rw (← byte .ensures) (sym (c .before .starts-number .ensures) ∙ c .if4 .taken)))
 
 returns-4 : tie.Need-returns-4
 returns-4 c =
@@ -89,7 +93,11 @@ lex-other-requires c κs =
     let a = c .before .before .before .before .before .before .before .before .before .args in
     let first = getD (a .src .now) (a .at) 0 in
     let n = none-of (isDecimal first) _ (sym (c .before .before .starts-number .ensures) ∙ c .before .if4 .left) in
-    (c .before .before .before .before .before .before .before .if1 .left, ne-eqb first 10 (c .match .rest .0 .0 .0 .1), sym (c .before .before .before .before .before .byte .ensures), n .1)
+    let r = c .match .rest in (
+      (c .before .before .before .before .before .before .before .if1 .left, ne-eqb first 10 (r .0 .0 .0 .1), n .0, ne-eqb first 96 (r .1)),
+      sym (c .before .before .before .before .before .byte .ensures),
+      n .1,
+    )
 
 returns-5 : tie.Need-returns-5
 returns-5 c =
