@@ -22,7 +22,7 @@ use Rattle.words.specs.Word.{isLetter, wordLen}
 use Rattle.lexer.specs.declared.lexed.Text.{Text}
 use Rattle.lexer.specs.declared.lexed.Text.the-variants.{Empty, AsRead}
 use Rattle.lexer.specs.declared.lexed.Value.the-variants.{Empty as NoValue}
-use Rattle.lexer.specs.Lexeme.{setsMark}
+use Rattle.kinds.specs.Table.{setsMark}
 use Rattle.lexer.specs.Lex.{lexToken}
 use Rattle.lexer.specs.Made.{answer}
 use Rattle.lexer.specs.Placed.{placed, said}

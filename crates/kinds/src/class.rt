@@ -1,7 +1,7 @@
 // The classes of the kinds, and the precedence of the binary operators.
 use crate::*;
 ghost use mathlib.Core.Path.{_≡_};
-ghost use Rattle.kinds.specs.Table.{isLiteral, isOperator, isKeyword};
+ghost use Rattle.kinds.specs.Table.{isLiteral, isOperator, isKeyword, setsMark};
 ghost use Rattle.kinds.specs.Precedence.{precedenceOf};
 
 pub fn is_literal(kind: u8) -> bool
@@ -33,5 +33,16 @@ pub fn precedence(kind: u8) -> usize
         ADD | SUB | OR | XOR => 4,
         MUL | QUO | REM | SHL | SHR | AND | AND_NOT => 5,
         _ => 0,
+    }
+}
+
+// Is the mark for an inserted semicolon set after a word or an operator of this kind? After a number, a string or a character it always is.
+pub fn sets_mark(kind: u8) -> bool
+    ensures { λ r. ⌜ r ≡ setsMark kind ⌝ }
+{
+    match kind {
+        IDENT | INC | DEC | RPAREN | RBRACK | RBRACE | BREAK | CONTINUE | FALLTHROUGH | RETURN =>
+            true,
+        _ => false,
     }
 }

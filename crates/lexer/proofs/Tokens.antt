@@ -21,7 +21,7 @@ use Rattle.utf8.proofs.Places.{ascii-only, test-there, test-next, code-there}
 use Rattle.utf8.proofs.Runs.{run-bound, run-passes, run-no-feed}
 use Rattle.utf8.proofs.Encoding.{first-coded}
 use Rattle.kinds.specs.Kinds.{ILLEGAL, COMMENT, IDENT, STRING}
-use Rattle.kinds.specs.Table.{operators, identToken}
+use Rattle.kinds.specs.Table.{operators, identToken, setsMark}
 use Rattle.digits.specs.Digit.{isDecimal}
 use Rattle.words.specs.Word.{isLetter, isWord, wordLen}
 use Rattle.words.proofs.Words.{letter-high, word-high, word-run, feed-no-word}
@@ -32,7 +32,7 @@ use Rattle.operators.proofs.Bounds.{operator-bound, longest-ind}
 use Rattle.lexer.specs.declared.lexed.Text.the-variants.{Empty, AsRead}
 use Rattle.lexer.specs.declared.lexed.Value.the-variants.{Empty as NoValue}
 use Rattle.lexer.specs.declared.lexed.Lexed.{Lexed}
-use Rattle.lexer.specs.Lexeme.{shown, bare, setsMark}
+use Rattle.lexer.specs.Lexeme.{shown, bare}
 use Rattle.lexer.specs.Words.{wordOf, lexWord}
 use Rattle.lexer.specs.Lex.{lexIllegal, lexOperator}
 use Rattle.lexer.specs.Made.{madeAt, shownAt}

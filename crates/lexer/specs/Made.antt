@@ -1,6 +1,6 @@
 -- The answers that the code makes, step by step: no public contract cites them.
 use Prim.Native.Nat.{ℕ, _+_, _-_, _<_}
-use Prim.Native.Char.{code}
+pub use Prim.Native.Char.{code}
 use mathlib.Core.Path.{_≡_}
 use mathlib.Core.Bool.{Bool, true, false, not, _||_}
 use mathlib.Core.List.{List}

@@ -1,5 +1,6 @@
 -- Character literals, strings and raw strings, from the opening quote on.
 use Prim.Native.Nat.{suc}
+use Prim.Native.Char.{code}
 use mathlib.Core.Bool.{true, false, cond}
 use mathlib.Core.List.{List, []}
 use lib.Dec.{eqb}
@@ -7,6 +8,7 @@ use lib.ListN.{take, drop}
 use Rattle.utf8.specs.declared.Char.{Char}
 use Rattle.utf8.specs.Chars.{encoded}
 use Rattle.kinds.specs.Kinds.{CHAR, STRING}
+use Rattle.errors.specs.Numbers.{OPEN-RAW-STRING}
 use Rattle.quotes.specs.Body.{Body, body}
 use Rattle.quotes.specs.Literal.{stringKind, charKind, charError}
 use Rattle.spans.specs.Span.{Span, toStop}
@@ -29,7 +31,7 @@ stringOf r b =
     }
 
 unfoldable pub lexString : List Char → Lexeme
-lexString r = stringOf r (body 34 (drop 1 r))
+lexString r = stringOf r (body (code "\"") (drop 1 r))
 
 abbrev pub charOf : List Char → Body → Lexeme
 charOf r b =
@@ -46,9 +48,9 @@ charOf r b =
     }
 
 unfoldable pub lexChar : List Char → Lexeme
-lexChar r = charOf r (body 39 (drop 1 r))
+lexChar r = charOf r (body (code "'") (drop 1 r))
 
--- "Raw strings drop CR from text and value; an unclosed one is still a STRING." Its error is 6
+-- "Raw strings drop CR from text and value; an unclosed one is still a STRING."
 abbrev pub rawOf : List Char → Span → Lexeme
 rawOf r s =
     record {
@@ -59,9 +61,9 @@ rawOf r s =
       text = clean (take (suc (s .len)) r);
       value = clean (take (rawInside s) (drop 1 r));
       code = 0;
-      error = cond (s .closed) 0 6;
+      error = cond (s .closed) 0 OPEN-RAW-STRING;
       mark = true;
     }
 
 unfoldable pub lexRaw : List Char → Lexeme
-lexRaw r = rawOf r (toStop 96 (drop 1 r))
+lexRaw r = rawOf r (toStop (code "`") (drop 1 r))

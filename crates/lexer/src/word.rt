@@ -1,7 +1,6 @@
 // Identifiers and keywords.
 use crate::lexed::Lexed;
 use crate::lexed::bare;
-use crate::lexed::sets_mark;
 use crate::lexed::shown;
 ghost use mathlib.Core.Path.{_≡_};
 ghost use Prim.Native.Nat.{_≤_};
@@ -22,5 +21,5 @@ pub(crate) fn lex_word(src: &[u8], at: usize) -> Lexed
     if kind == kinds::IDENT {
         return shown(kind, at, end, true);
     }
-    bare(kind, at, end, sets_mark(kind))
+    bare(kind, at, end, kinds::sets_mark(kind))
 }
