@@ -1,5 +1,5 @@
 -- Character literals, strings and raw strings, from the opening quote on.
-use Prim.Native.Nat.{suc}
+use Prim.Native.Nat.{ℕ, suc}
 use Prim.Native.Char.{code}
 use mathlib.Core.Bool.{true, false, cond}
 use mathlib.Core.List.{List, []}
@@ -15,37 +15,31 @@ use Rattle.spans.specs.Span.{Span, toStop}
 use Rattle.spans.specs.Body.{rawInside, clean}
 use Rattle.lexer.specs.Lexeme.{Lexeme}
 
--- a string that is not closed has no value
-abbrev pub stringOf : List Char → Body → Lexeme
-stringOf r b =
+-- a literal, from the characters that start with its quote, by its body
+abbrev pub literalOf : List Char → Body → ℕ → ℕ → ℕ → List ℕ → Lexeme
+literalOf r b kind error code value =
     record {
       skipped = 0;
       len = suc (b .len);
-      kind = stringKind b;
+      kind = kind;
       inserted = false;
       text = encoded (take (suc (b .len)) r);
-      value = cond (b .closed) (b .value) [];
-      code = 0;
-      error = b .error;
+      value = value;
+      code = code;
+      error = error;
       mark = true;
     }
+
+-- a string that is not closed has no value
+abbrev pub stringOf : List Char → Body → Lexeme
+stringOf r b = literalOf r b (stringKind b) (b .error) 0 (cond (b .closed) (b .value) [])
 
 unfoldable pub lexString : List Char → Lexeme
 lexString r = stringOf r (body (code "\"") (drop 1 r))
 
+-- a character literal that is no CHAR has no code point
 abbrev pub charOf : List Char → Body → Lexeme
-charOf r b =
-    record {
-      skipped = 0;
-      len = suc (b .len);
-      kind = charKind b;
-      inserted = false;
-      text = encoded (take (suc (b .len)) r);
-      value = [];
-      code = cond (eqb (charKind b) CHAR) (b .code) 0;
-      error = charError b;
-      mark = true;
-    }
+charOf r b = literalOf r b (charKind b) (charError b) (cond (eqb (charKind b) CHAR) (b .code) 0) []
 
 unfoldable pub lexChar : List Char → Lexeme
 lexChar r = charOf r (body (code "'") (drop 1 r))
