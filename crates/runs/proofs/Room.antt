@@ -8,12 +8,12 @@ use lib.ListN.{length, drop, length-drop}
 use borrow.Author.Tests.{leb-true, le-ltb}
 use Rattle.utf8.specs.Chars.{chars}
 use Rattle.utf8.proofs.Places.{place-chars}
-use Rattle.position.specs.Place.{inRange as among}
+use Rattle.position.specs.Place.{inRange}
 use Rattle.position.proofs.Place.{Fit as FileFit, fit-true}
 use Rattle.errors.specs.Errors.{roomOf}
 use Rattle.lexer.specs.Lexeme.{Lexeme, taken}
 use Rattle.lexer.specs.Lex.{lex}
-use Rattle.lexer.specs.Placed.{Placed, inRange}
+use Rattle.lexer.specs.Placed.{Placed, placed}
 use Rattle.lexer.proofs.Laws.{lex-laws}
 use Rattle.reading.specs.Reading.{Reading, after}
 use Rattle.reading.specs.Run.{scanned, next}
@@ -38,7 +38,7 @@ fit-fits src h f = fits-held (h .state) src (h .table) (h .list) (f .holds) (ome
 
 -- ---- an accepted opening
 pub fit-accepted : {src : List ℕ} {base size : ℕ} {h : Held} → Accepted src base size h → Fit src h
-unfolding fresh among
+unfolding fresh inRange
 fit-accepted {src} {base} {size} {h} a =
     let e = accepted-state a in
     let z = accepted-table a in
@@ -93,7 +93,7 @@ module _ (src : List ℕ) (h : Held) (f : Fit src h) where
   x = scanned lex r
 
   abbrev p : Placed
-  p = inRange src (startOf r x) x
+  p = placed src (startOf r x) x
 
   abbrev u : Reading
   u = next lex (s .size) r
@@ -121,7 +121,7 @@ module _ (src : List ℕ) (h : Held) (f : Fit src h) where
     call-wants = unless-refusal refusal gives h area refl ∙ refusal-is
 
     pub fit-call : Fit src (left (call src area h))
-    unfolding call scanOf scanBy next scanned inRange
+    unfolding call scanOf scanBy next scanned placed
     fit-call =
         left-cases (Fit src) refusal gives h area f (λ z.
         let q = passes (fits s src (h .table) (h .list)) (s .size) u (length (h .table)) (roomOf (h .list)) (length (toArea p)) (length area) z in

@@ -13,7 +13,7 @@ use Rattle.utf8.specs.declared.Char.{Char}
 use Rattle.utf8.specs.Chars.{chars, widths}
 use Rattle.utf8.proofs.Places.{place-fits}
 use Rattle.position.specs.Lines.{lineStart}
-use Rattle.position.specs.Place.{inRange as among}
+use Rattle.position.specs.Place.{inRange}
 use Rattle.position.proofs.Lines.{FromZero, from-zero-append}
 use Rattle.position.proofs.Place.{Fit, fit, fit-true, from-zero, last-start}
 use Rattle.errors.specs.Layout.{width, numbers}
@@ -23,7 +23,7 @@ use Rattle.utf8.proofs.Count.{count-fits}
 use Rattle.lines.proofs.Kept.{read-last}
 use Rattle.lexer.specs.Lexeme.{Lexeme, taken}
 use Rattle.lexer.specs.Lex.{lex}
-use Rattle.lexer.specs.Placed.{Placed, inRange}
+use Rattle.lexer.specs.Placed.{Placed, placed}
 use Rattle.lexer.proofs.Laws.{lex-laws}
 use Rattle.reading.specs.Reading.{Reading, errorAt, after}
 use Rattle.reading.proofs.Step.{after-from-zero}
@@ -36,7 +36,7 @@ use Rattle.scanner.proofs.Scans.{Held, held}
 pub fits-held : (s : State) (src table list : List ℕ) → Held s src table list → s .offset ≤ s .size → fits s src table list ≡ true
 fits-held s src table list k h =
     let g = fit (fileOf s) table (k .fitted) in
-    let top : among (fileOf s) ≡ true = unfold among in le-leb _ _ (g .top) in
+    let top : inRange (fileOf s) ≡ true = unfold inRange in le-leb _ _ (g .top) in
     rw (
       le-leb _ _ (k .offset),
       le-leb (s .offset) (s .size) h,
@@ -133,7 +133,7 @@ module _ (src : List ℕ) (s : State) (table list area : List ℕ) (holds : fits
   x = lex (r .mark) (r .rest)
 
   abbrev p : Placed
-  p = inRange src (startOf r x) x
+  p = placed src (startOf r x) x
 
   abbrev u : Reading
   u = after (s .size) x r
@@ -151,7 +151,7 @@ module _ (src : List ℕ) (s : State) (table list area : List ℕ) (holds : fits
   -- what the scan leaves is taken by the next
   pub fits-after : scanOf src s table list area .answer .refusal ≡ 0
       → let a = scanOf src s table list area in fits (a .answer .state) src (a .table) (a .list) ≡ true
-  unfolding scanOf scanBy inRange
+  unfolding scanOf scanBy placed
   fits-after e =
       given (λ (a : After). fits (a .answer .state) src (a .table) (a .list) ≡ true) refusal
       (gaveBy s p (tokenOf (s .base) (startOf r x) r p) u table list area) s table list area e gives-fits

@@ -12,7 +12,7 @@ use borrow.Author.Tests.{leb-true}
 use Rattle.basics.proofs.Choice.{and-split}
 use Rattle.utf8.specs.Chars.{widths}
 use Rattle.position.specs.Lines.{lineStart}
-use Rattle.position.specs.Place.{fitting, inRange as among}
+use Rattle.position.specs.Place.{fitting, inRange}
 use Rattle.position.proofs.Place.{fit, last-start}
 use Rattle.errors.specs.Layout.{width, numbers}
 use Rattle.errors.specs.Errors.{errorsOf, roomOf}
@@ -23,12 +23,12 @@ use Rattle.lines.proofs.Written.{sets-take}
 use Rattle.blanks.specs.Blank.{skip}
 use Rattle.lexer.specs.declared.lexed.Lexed.{Lexed}
 use Rattle.lexer.specs.Lexeme.{Lexeme, raise}
-use Rattle.lexer.specs.Placed.{Placed, inRange, said}
+use Rattle.lexer.specs.Placed.{Placed, placed, said}
 use Rattle.reading.specs.Reading.{Reading, errorAt, newErrors, after}
 use Rattle.state.specs.declared.state.State.{State}
 use Rattle.state.specs.Fits.{fileOf, fitsAlone, fitsTable, fitsSource, fitsList, fits}
 use Rattle.scanner.specs.Scan.{view, written, startOf, toArea, tokenOf, refusalOf, After, refusedBy, stateOf, withError, gaveBy, unless, scanBy, scanOf}
-use Rattle.scanner.specs.Steps.{refusalBy, stateBy, tokenBy, startsFrom, Ready, commitOf}
+use Rattle.scanner.specs.Steps.{refusalBy, stateBy, tokenBy, startsFrom, Ready, leftOf, commitOf}
 use Rattle.scanner.proofs.Refusals.{passed}
 use Rattle.scanner.proofs.Pass.{raised, placed-raise, left, skipped, token, lex-raised, skipped-widths, read, taken-read, token-skipped, end-read, text-length, value-length, area-length, start-behind, end-behind, lengths-fit}
 
@@ -46,7 +46,7 @@ held s src table list e =
     let b = and-split (fitsAlone s && fitsTable s table) (fitsSource s src) (a .0) in
     let d = and-split (fitsAlone s) (fitsTable s table) (b .0) in
     let f = and-split (fitting (fileOf s) table) _ (d .1) in
-    let g = and-split _ (among (fileOf s)) (d .0) in
+    let g = and-split _ (inRange (fileOf s)) (d .0) in
     record {
       fitted = f .0;
       offset = leb-true _ _ (and-split _ _ (and-split _ _ (g .0) .0) .0);
@@ -79,7 +79,7 @@ unfolding scanOf scanBy
 scan-unfit src s table list area f = rw f
 
 -- ---- a scan that fits, behind its pass
-module _ (src : List ℕ) (s : State) (table list area : List ℕ) (k : Held s src table list) (start : ℕ) (at : start ≡ s .place + skip (s .mark) (left src s start) .len) (x : Lexed) (e : said src start x ≡ inRange src start (token src s start)) where
+module _ (src : List ℕ) (s : State) (table list area : List ℕ) (k : Held s src table list) (start : ℕ) (at : start ≡ s .place + skip (s .mark) (left src s start) .len) (x : Lexed) (e : said src start x ≡ placed src start (token src s start)) where
   abbrev n : ℕ
   n = skipped src s start
 
@@ -113,11 +113,11 @@ module _ (src : List ℕ) (s : State) (table list area : List ℕ) (k : Held s s
   last-kept = rw (last-start (fileOf s) table (fit (fileOf s) table (k .fitted))) (k .last)
 
   token-error : token src s start .error ≡ x .error
-  unfolding said inRange
+  unfolding said placed
   token-error = sym (ap (λ (q : Placed). q .lexeme .error) e)
 
   token-mark : token src s start .mark ≡ x .mark
-  unfolding said inRange
+  unfolding said placed
   token-mark = sym (ap (λ (q : Placed). q .lexeme .mark) e)
 
   -- after so many characters
@@ -152,7 +152,7 @@ module _ (src : List ℕ) (s : State) (table list area : List ℕ) (k : Held s s
       rw (token-skipped src s start at x e, add-zero n, skipped-widths src s start at)
       (omega (arith, at))
 
-  placed-is : inRange src start (raise n (token src s start)) ≡ p
+  placed-is : placed src start (raise n (token src s start)) ≡ p
   placed-is = placed-raise src start n (token src s start) ∙ ap (raised n) (sym e)
 
   -- what a scan comes to by the place of its token, how it stands there and how far the source is read then
@@ -162,10 +162,10 @@ module _ (src : List ℕ) (s : State) (table list area : List ℕ) (k : Held s s
       (gaveBy s q (tokenOf (s .base) st r q) v table list area)
       s table list area
 
-  scan-by : (y : Lexeme) (st : ℕ) (q : Placed) (v : Reading) → startOf r y ≡ st → inRange src st y ≡ q → after (s .size) y r ≡ v
+  scan-by : (y : Lexeme) (st : ℕ) (q : Placed) (v : Reading) → startOf r y ≡ st → placed src st y ≡ q → after (s .size) y r ≡ v
       → scanBy y r src s table list area ≡ came st q v
   unfolding scanBy
-  scan-by y st q v a b d = ap (λ (m : ℕ). came m (inRange src m y) (after (s .size) y r)) a ∙ ap₂ (came st) b d
+  scan-by y st q v a b d = ap (λ (m : ℕ). came m (placed src m y) (after (s .size) y r)) a ∙ ap₂ (came st) b d
 
   scan-came : scanOf src s table list area ≡ came start p u
   unfolding scanOf view
@@ -216,7 +216,7 @@ module _ (src : List ℕ) (s : State) (table list area : List ℕ) (k : Held s s
         list-is = rw (sets-take table (s .lines) new room)
 
         gave-is : gaveBy s p (tokenOf (s .base) start r p) u table list area ≡ commitOf src s start x taken′ (length new) table list area
-        unfolding commitOf said
+        unfolding commitOf leftOf said
         gave-is = λ i. record {
           table = written-behind table (s .lines) new room i;
           list = list-is i;

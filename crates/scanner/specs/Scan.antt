@@ -18,6 +18,7 @@ use Rattle.state.specs.declared.state.State.{State}
 use Rattle.state.specs.declared.part.Part.{Part}
 use Rattle.scanner.specs.declared.answer.Token.{Token}
 use Rattle.scanner.specs.declared.answer.Scanned.{Scanned}
+use Rattle.state.specs.State.{advance}
 use Rattle.state.specs.Fits.{fits}
 
 -- how far a state and its buffers say that a source has been read
@@ -100,16 +101,7 @@ refusedBy n s table list area =
 
 -- the state that says how far a source has been read
 abbrev pub stateOf : State → Reading → State
-stateOf s u =
-    record {
-      base = s .base;
-      size = s .size;
-      place = u .place;
-      offset = u .offset;
-      mark = u .mark;
-      lines = length (u .lines);
-      errors = length (u .errors);
-    }
+stateOf s u = advance s (u .place) (u .offset) (u .mark) (length (u .lines)) (length (u .errors))
 
 -- the list with the error of a lexeme, if it has one, behind the first n
 abbrev pub withError : ℕ → ℕ → List ℕ → Reading → List ℕ

@@ -21,7 +21,8 @@ use Rattle.lexer.specs.Lex.{lexToken}
 use Rattle.lexer.specs.Placed.{lengthOf, placed, said}
 use Rattle.state.specs.declared.state.State.{State}
 use Rattle.scanner.specs.declared.answer.Token.{Token}
-use Rattle.state.specs.Fits.{fileOf}
+use Rattle.state.specs.State.{advance}
+use Rattle.state.specs.Fits.{fileOf, fits}
 use Rattle.scanner.specs.Scan.{partFrom, written, toArea, After}
 
 -- how many bytes text and value have
@@ -44,16 +45,7 @@ refusalBy x offset starts s table list area =
 
 -- the state after a token that ends at an offset and records so many line starts
 abbrev pub stateBy : Lexed → ℕ → ℕ → State → State
-stateBy x offset starts s =
-    record {
-      base = s .base;
-      size = s .size;
-      place = x .end;
-      offset = offset;
-      mark = x .mark;
-      lines = s .lines + starts;
-      errors = s .errors + cond (eqb (x .error) 0) 0 1;
-    }
+stateBy x offset starts s = advance s (x .end) offset (x .mark) (s .lines + starts) (s .errors + cond (eqb (x .error) 0) 0 1)
 
 -- the token that was read at a place, with its position
 abbrev pub tokenBy : Lexed → ℕ → ℕ → Token
@@ -83,6 +75,12 @@ pub record Reads (src : List ℕ) (s : State) (b : Skipped) (x : Lexed) : Type 0
   pub skipped : b ≡ skippedAt (s .place) (skip (s .mark) (chars (drop (s .place) src)))
   pub token : said src (b .end) x ≡ placed src (b .end) (lexToken (s .mark) (chars (drop (b .end) src)))
 
+-- what is known when a token was read: the state fits, and so many characters were read with the blanks
+pub record Known (src : List ℕ) (s : State) (table list : List ℕ) (b : Skipped) (x : Lexed) (read : ℕ) : Type 0 where
+  pub holds : fits s src table list ≡ true
+  pub reads : Reads src s b x
+  pub chars : read ≡ b .end - s .place + x .chars
+
 -- how a token that was read at a place, and all its characters and line starts, may be committed
 pub record Ready (src : List ℕ) (s : State) (start : ℕ) (x : Lexed) (read starts : ℕ) (table list area : List ℕ) : Type 0 where
   pub counted : starts ≡ length (startsFrom src s read)
@@ -100,9 +98,15 @@ pub record Ready (src : List ℕ) (s : State) (start : ℕ) (x : Lexed) (read st
   pub textLength : length (said src start x .lexeme .text) ≡ textLen x
   pub bytes : start + 1 + textLen x + valueLen x < 2 ^ 64
 
--- what a token that was not refused leaves in the buffers, and its answer
-unfoldable pub commitOf : List ℕ → State → ℕ → Lexed → ℕ → ℕ → List ℕ → List ℕ → List ℕ → After
-commitOf src s start x read starts table list area =
+-- what buffers hold
+pub record Left : Type 0 where
+  pub table : List ℕ
+  pub list : List ℕ
+  pub area : List ℕ
+
+-- what a token that was not refused leaves in the buffers
+unfoldable pub leftOf : List ℕ → State → ℕ → Lexed → ℕ → ℕ → List ℕ → List ℕ → List ℕ → Left
+leftOf src s start x read starts table list area =
     let table′ = sets table (s .lines) (startsFrom src s read) in
     record {
       table = table′;
@@ -110,10 +114,19 @@ commitOf src s start x read starts table list area =
           cond (eqb (x .error) 0) list
           (sets list (s .errors * width) (numbers (errorAt (x .error) (s .offset + read) (take (s .lines + starts) table′))));
       area = written (toArea (said src start x)) area;
-      answer =
-          record {
-            refusal = 0;
-            state = stateBy x (s .offset + read) starts s;
-            token = tokenBy x start (s .base + s .offset + (start - s .place));
-          };
+    }
+
+-- the position of a token that starts at a place, with blanks of one byte each between the state's place and it
+abbrev pub positionBy : State → ℕ → ℕ
+positionBy s start = s .base + s .offset + (start - s .place)
+
+-- the same, and its answer
+unfoldable pub commitOf : List ℕ → State → ℕ → Lexed → ℕ → ℕ → List ℕ → List ℕ → List ℕ → After
+commitOf src s start x read starts table list area =
+    let l = leftOf src s start x read starts table list area in
+    record {
+      table = l .table;
+      list = l .list;
+      area = l .area;
+      answer = record { refusal = 0; state = stateBy x (s .offset + read) starts s; token = tokenBy x start (positionBy s start) };
     }
