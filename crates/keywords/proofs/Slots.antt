@@ -14,7 +14,7 @@ use Rattle.swar.specs.Lanes.{numberOf}
 use Rattle.swar.proofs.Numbers.{Bytes}
 use Rattle.kinds.specs.Kinds.{IDENT}
 use Rattle.kinds.specs.Table.{keywords, identToken}
-use Rattle.keywords.specs.Search.{slotOf, rowIn, slotsFrom, bySlot, kindIn}
+use Rattle.keywords.specs.Search.{slotOf, rowIn, slotsFrom, bySlot, numbersBySlot, kindsBySlot, kindIn}
 use Rattle.keywords.proofs.Search.{word-searched}
 
 module _ (f : ℕ → ℕ) where
@@ -86,8 +86,7 @@ slot-small number n = omega arith
 
 -- the tables of keywords give a word of at most eight bytes its kind
 pub kind-found : (s : List ℕ) (n : ℕ) → Bytes s → n ≤ 8 → n ≤ length s
-    → kindIn (bySlot (λ slot. rowIn slot keywords .1)) (bySlot (λ slot. rowIn slot keywords .0)) (numberOf (take n s)) n
-    ≡ identToken (take n s)
+    → kindIn numbersBySlot kindsBySlot (numberOf (take n s)) n ≡ identToken (take n s)
 kind-found s n bytes short inside =
     let slot = slotOf (numberOf (take n s)) n in
     let h : slot < 64 = slot-small (numberOf (take n s)) n in
