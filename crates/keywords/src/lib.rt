@@ -70,10 +70,9 @@ struct Row(u8, u64);
 
 // The slot of a word by its length and its first two bytes: no two keywords of at most eight bytes share one.
 fn slot_of(number: u64, n: usize) -> u64
-    requires { ⌜ n ≤ 8 ⌝ }
     ensures { λ r. ⌜ r ≡ slotOf number n ⌝ }
 {
-    (n as u64 + number % 256 * 8 + number / 256 % 256 * 59) % 64
+    (n as u64 % 64 + number % 256 * 8 + number / 256 % 256 * 59) % 64
 }
 
 // The keyword in a slot. (A match becomes a constant table; an array would be built at each call.)
@@ -166,7 +165,7 @@ pub fn keyword_kinds() -> [u8; 64]
 pub fn kind_in(numbers: &[u64; 64], kinds: &[u8; 64], number: u64, n: usize) -> u8
     ensures { λ r. ⌜ r ≡ kindIn (now (numbers .entry)) (now (kinds .entry)) number n ⌝ }
 {
-    let slot = (n % 64 + (number % 256 * 8 + number / 256 % 256 * 59) as usize) % 64;
+    let slot = slot_of(number, n) as usize;
     let kind = kinds[slot];
     if numbers[slot] == number { kind } else { IDENT }
 }
