@@ -11,7 +11,7 @@ slot-of-requires c κs = search needs
 
 -- the slot is in the tables
 within : (c : tie.After-slot-of) → c .slot-of .result < 64
-within c = rw (c .slot-of .ensures) (slot-small (c .before .args .number) (c .before .args .n))
+within c = rw (c .slot-of .ensures) (slot-small _ _)
 
 element-copy-out-kind : tie.Need-element-copy-out-kind
 element-copy-out-kind c = within c
