@@ -25,6 +25,7 @@ use Rattle.lexer.specs.declared.lexed.Value.the-variants.{Empty as NoValue}
 use Rattle.lexer.specs.Lex.{lexToken}
 use Rattle.lexer.specs.Made.{answer}
 use Rattle.lexer.specs.Placed.{placed, said}
+use Rattle.lexer.proofs.Ways.{number-there}
 use Rattle.lexer.proofs.Numerals.{numeralAt, numeral-said}
 use Rattle.lexer.proofs.Dispatch.{number-is}
 use Rattle.batch.specs.declared.next.Next.{Next}
@@ -61,7 +62,7 @@ module _ (src : List ℕ) (at end : ℕ) (some : at < end) (all : (p : ℕ) → 
   integer-reads m =
       ap (λ k. said src at (answer INT at end false true (NumberText AsRead) NoValue k)) (sym (add-zero (end - at)))
       ∙ ap (λ (n : Number). said src at (numeralAt src at n)) (sym (integer-is src at end some all behind alone))
-      ∙ numeral-said src at
+      ∙ numeral-said src at (number-there src at (rw first))
       ∙ ap (placed src at)
       (number-is m src at (reach src at (omega (arith, between-true 48 (getD src at 0) 57 first))) (getD src (at + 1) 0) refl no-letter (rw first))
 

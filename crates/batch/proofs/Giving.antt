@@ -22,7 +22,7 @@ use Rattle.words.specs.Word.{isLetter, wordLen}
 use Rattle.lexer.specs.declared.lexed.Text.{Text}
 use Rattle.lexer.specs.declared.lexed.Text.the-variants.{Empty, AsRead}
 use Rattle.lexer.specs.declared.lexed.Value.the-variants.{Empty as NoValue}
-use Rattle.lexer.specs.Lexeme.{setsMark}
+use Rattle.kinds.specs.Table.{setsMark}
 use Rattle.lexer.specs.Lex.{lexToken}
 use Rattle.lexer.specs.Made.{answer}
 use Rattle.lexer.specs.Placed.{placed, said}
@@ -80,7 +80,7 @@ module _ (src : List ℕ) (at safe position : ℕ) (tokens : List ℕ) (to : ℕ
     identifier i =
         let whole : at + (end - at) ≡ end = omega (arith, e) in
         gives-plain kind end false true AsRead (end - at)
-        (λ m. identifier-said src at end kind e k i ∙ ap (placed src at) (word-is m src at h l)) known no-string near
+        (λ m. identifier-said src at end kind e k l i ∙ ap (placed src at) (word-is m src at h l)) known no-string near
         (is ∙ rw i) (w ∙ rw (eq-eqb kind IDENT i, whole))
 
     keyword : (kind ≡ IDENT → ⊥) → Gives src at safe position tokens to r tokens′

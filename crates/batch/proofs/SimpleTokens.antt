@@ -30,7 +30,7 @@ use Rattle.operators.proofs.Leading.{among}
 use Rattle.operators.proofs.Rows.{row, one-is, period-is}
 use Rattle.lexer.specs.declared.lexed.Text.the-variants.{Empty}
 use Rattle.lexer.specs.declared.lexed.Value.the-variants.{Empty as NoValue}
-use Rattle.lexer.specs.Lexeme.{setsMark}
+use Rattle.kinds.specs.Table.{setsMark}
 use Rattle.lexer.specs.Lex.{lexOperator, lexBy, lexToken}
 use Rattle.lexer.specs.Made.{madeAt, insertedAt}
 use Rattle.lexer.specs.Placed.{placed, said}

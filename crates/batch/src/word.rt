@@ -9,7 +9,7 @@ ghost use Prim.Native.Nat.{_+_, _≤_, _<_};
 ghost use lib.ListN.{length, getD};
 ghost use lib.Seq.{sets};
 ghost use Rattle.words.specs.Word.{isLetter};
-ghost use Rattle.lexer.specs.Lexeme.{setsMark};
+ghost use Rattle.kinds.specs.Table.{setsMark};
 ghost use Rattle.batch.specs.Layout.{tokenWidth, tokenNumbers};
 ghost use Rattle.batch.specs.Simple.{IsKeywords, wordOf, Gives};
 

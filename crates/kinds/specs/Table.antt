@@ -6,6 +6,7 @@ use mathlib.Core.List.{List, [], _∷_, _++_}
 use lib.Dec.{eqb}
 use Rattle.basics.specs.Same.{same}
 use Rattle.basics.specs.Spelling.{spelled}
+use Rattle.kinds.specs.Precedence.{among}
 use Rattle.kinds.specs.Kinds.{NONE, ILLEGAL, EOF, COMMENT, IDENT, INT, FLOAT, IMAG, CHAR, STRING}
 use Rattle.kinds.specs.Kinds.{ADD, SUB, MUL, QUO, REM, AND, OR, XOR, SHL, SHR, AND-NOT, ADD-ASSIGN, SUB-ASSIGN, MUL-ASSIGN, QUO-ASSIGN, REM-ASSIGN, AND-ASSIGN, OR-ASSIGN, XOR-ASSIGN, SHL-ASSIGN, SHR-ASSIGN, AND-NOT-ASSIGN}
 use Rattle.kinds.specs.Kinds.{LAND, LOR, ARROW, INC, DEC, EQL, LSS, GTR, ASSIGN, NOT, NEQ, LEQ, GEQ, DEFINE, ELLIPSIS, LPAREN, LBRACK, LBRACE, COMMA, PERIOD, RPAREN, RBRACK, RBRACE, SEMICOLON, COLON}
@@ -169,3 +170,7 @@ isOperator k = elim (classOf k) [ Literal ↦ false | Operator ↦ true | Keywor
 
 abbrev pub isKeyword : ℕ → Bool
 isKeyword k = elim (classOf k) [ Literal ↦ false | Operator ↦ false | Keyword ↦ true | Other ↦ false ]
+
+-- of words and operators: "The mark is set after IDENT, .. `++ -- ) ] }`, break, continue, fallthrough, return."
+abbrev pub setsMark : ℕ → Bool
+setsMark kind = among kind (IDENT ∷ INC ∷ DEC ∷ RPAREN ∷ RBRACK ∷ RBRACE ∷ BREAK ∷ CONTINUE ∷ FALLTHROUGH ∷ RETURN ∷ [])

@@ -1,25 +1,33 @@
 // The classes of the kinds, and the precedence of the binary operators.
 use crate::*;
 ghost use mathlib.Core.Path.{_≡_};
-ghost use Rattle.kinds.specs.Table.{isLiteral, isOperator, isKeyword};
+ghost use Rattle.basics.specs.Between.{between};
+ghost use Rattle.kinds.specs.Table.{isLiteral, isOperator, isKeyword, setsMark};
 ghost use Rattle.kinds.specs.Precedence.{precedenceOf};
+
+// Whether a kind is one of those from a first to a last.
+fn is_between(first: u8, kind: u8, last: u8) -> bool
+    ensures { λ r. ⌜ r ≡ between first kind last ⌝ }
+{
+    first <= kind && kind <= last
+}
 
 pub fn is_literal(kind: u8) -> bool
     ensures { λ r. ⌜ r ≡ isLiteral kind ⌝ }
 {
-    IDENT <= kind && kind <= STRING
+    is_between(IDENT, kind, STRING)
 }
 
 pub fn is_operator(kind: u8) -> bool
     ensures { λ r. ⌜ r ≡ isOperator kind ⌝ }
 {
-    ADD <= kind && kind <= COLON
+    is_between(ADD, kind, COLON)
 }
 
 pub fn is_keyword(kind: u8) -> bool
     ensures { λ r. ⌜ r ≡ isKeyword kind ⌝ }
 {
-    BREAK <= kind && kind <= VAR
+    is_between(BREAK, kind, VAR)
 }
 
 // The precedence of a binary operator, 5 the highest; 0 of every other kind.
@@ -33,5 +41,16 @@ pub fn precedence(kind: u8) -> usize
         ADD | SUB | OR | XOR => 4,
         MUL | QUO | REM | SHL | SHR | AND | AND_NOT => 5,
         _ => 0,
+    }
+}
+
+// Is the mark for an inserted semicolon set after a word or an operator of this kind? After a number, a string or a character it always is.
+pub fn sets_mark(kind: u8) -> bool
+    ensures { λ r. ⌜ r ≡ setsMark kind ⌝ }
+{
+    match kind {
+        IDENT | INC | DEC | RPAREN | RBRACK | RBRACE | BREAK | CONTINUE | FALLTHROUGH | RETURN =>
+            true,
+        _ => false,
     }
 }

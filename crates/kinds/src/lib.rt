@@ -6,6 +6,7 @@ pub use class::is_keyword;
 pub use class::is_literal;
 pub use class::is_operator;
 pub use class::precedence;
+pub use class::sets_mark;
 pub use names::Padded;
 pub use names::name;
 

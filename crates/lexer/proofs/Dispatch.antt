@@ -7,9 +7,9 @@ use mathlib.Core.Logic.{_≢_, _⊎_, inl, inr, ⊎-elim}
 use native.Mathlib.Omega.{arith}
 use native.Mathlib.Decide.{decLt}
 use lib.Dec.{eqb, lit<}
-use lib.ListN.{length, getD, drop}
+use lib.ListN.{length, getD, take, drop}
 use borrow.Author.Tests.{ne-eqb, eqb-true}
-use Rattle.basics.proofs.Choice.{either, and-split, above-it}
+use Rattle.basics.proofs.Choice.{either, and-split}
 use Rattle.basics.proofs.Lists.{reach}
 use Rattle.utf8.specs.declared.Char.{Char}
 use Rattle.utf8.specs.Chars.{ended, firstChar, chars, peek}
@@ -24,16 +24,15 @@ use Rattle.lexer.specs.Words.{lexWord, lexNumber}
 use Rattle.lexer.specs.Quotes.{lexString, lexChar, lexRaw}
 use Rattle.lexer.specs.Comments.{lexComment}
 use Rattle.lexer.specs.Lex.{lexIllegal, lexOperator, lexDot, lexSlash, lexBy, lexToken}
+use Rattle.lexer.specs.Making.{isNumber, isRaw}
 use Rattle.lexer.proofs.Ascii.{Ascii}
+use Rattle.lexer.proofs.Ways.{decimal-high}
 
 -- a token that is no word, number or literal, by its first byte
 abbrev pub otherBy : Bool → ℕ → List Char → Lexeme
 otherBy mark b r = cond (eqb b 46) (lexDot mark r) (cond (eqb b 47) (lexSlash mark r) (lexOperator mark r))
 
 -- ---- no character above 127 has a rule of its own
-decimal-high : (c : ℕ) → 0x80 ≤ c → isDecimal c ≡ false
-decimal-high c h = above-it 48 c 57 (omega arith) (omega arith)
-
 high-by : (mark : Bool) (c : ℕ) (r : List Char) → 0x80 ≤ c → lexBy mark c r ≡ lexOperator mark r
 unfolding lexBy
 high-by mark c r h =
@@ -221,11 +220,15 @@ two-points c d r e f = (omega arith, go)
     go (suc zero) h = (omega (arith, f), λ z. omega (arith, f, z))
     go (suc (suc i)) h = absurd (omega arith)
 
-pub points-ascii : (s : List ℕ) (at : ℕ) (b : Bool) → eqb (getD s at 0) 46 && (eqb (getD s (at + 1) 0) 46 && b) ≡ true → Ascii 2 (chars (drop at s))
+-- neither digit nor backquote is among them
+pub points-ascii : (s : List ℕ) (at : ℕ) (b : Bool) → eqb (getD s at 0) 46 && (eqb (getD s (at + 1) 0) 46 && b) ≡ true
+    → Ascii 2 (chars (drop at s)) × (isNumber (take 2 (chars (drop at s))) ≡ false) × (isRaw (take 2 (chars (drop at s))) ≡ false)
 points-ascii s at b t =
     let q = and-split (eqb (getD s at 0) 46) (eqb (getD s (at + 1) 0) 46 && b) t in
     let e = eqb-true (getD s at 0) 46 (q .0) in
     let f = eqb-true (getD s (at + 1) 0) 46 (and-split (eqb (getD s (at + 1) 0) 46) b (q .1) .0) in
     let h = reach s at (omega (arith, e)) in
     let k = reach s (at + 1) (omega (arith, f)) in
-    rw (chars-ascii s at h (omega (arith, e)), chars-ascii s (at + 1) k (omega (arith, f))) (two-points (ascii (getD s at 0)) (ascii (getD s (at + 1) 0)) (chars (drop (at + 1 + 1) s)) e f)
+    let first = ascii (getD s at 0) in
+    let second = ascii (getD s (at + 1) 0) in
+    rw (chars-ascii s at h (omega (arith, e)), chars-ascii s (at + 1) k (omega (arith, f))) (two-points first second (chars (drop (at + 1 + 1) s)) e f, rw (e, f), rw e)

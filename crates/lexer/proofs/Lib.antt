@@ -6,8 +6,10 @@ pub mod Rules
 pub mod Laws
 pub mod Said
 pub mod Ascii
+pub mod Ways
 pub mod Tokens
 pub mod Dispatch
+pub mod NumberStarts
 pub mod Numerals
 pub mod Opened
 pub mod QuotedTokens

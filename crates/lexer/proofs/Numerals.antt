@@ -3,6 +3,7 @@ use Prim.Native.Nat.{ℕ, zero, suc, _+_, _-_, _≤_, _<_}
 use mathlib.Core.Path.{_≡_, refl, sym, ap, _∙_}
 use mathlib.Core.Bool.{true, false, not, false≢true, and-false}
 use mathlib.Core.List.{List, [], _∷_, _++_}
+use mathlib.Core.Logic.{_≢_}
 use native.Mathlib.Omega.{arith}
 use native.Mathlib.Nat.{add-zero}
 use lib.ListN.{length, getD, take, drop, length-map}
@@ -11,7 +12,7 @@ use borrow.Author.Tests.{ne-eqb}
 use Rattle.basics.specs.Same.{same}
 use Rattle.basics.specs.Between.{between}
 use Rattle.basics.proofs.Choice.{between-true}
-use Rattle.basics.proofs.Lists.{same-length}
+use Rattle.basics.proofs.Lists.{same-refl, same-length}
 use Rattle.utf8.specs.declared.Char.{Char}
 use Rattle.utf8.specs.Chars.{ended, chars, octets, encode, encoded}
 use Rattle.utf8.proofs.Places.{place-fits}
@@ -25,11 +26,15 @@ use Rattle.numbers.proofs.Tested.{Spelled, number-ascii, number-spelled, number
 use Rattle.lexer.specs.declared.lexed.Text.the-variants.{Number as NumberText}
 use Rattle.lexer.specs.declared.lexed.Value.the-variants.{Empty as NoValue}
 use Rattle.lexer.specs.declared.lexed.Lexed.{Lexed}
+use Rattle.lexer.specs.Lexeme.{shown}
 use Rattle.lexer.specs.Words.{lexNumber}
 use Rattle.lexer.specs.Made.{gainedBy, respelledBy}
+use Rattle.lexer.specs.Making.{isNumber, spellingOf}
 use Rattle.lexer.specs.Placed.{textDiffersIn, placed, said}
 use Rattle.lexer.proofs.Said.{alike, exact-length, text-same, text-some}
 use Rattle.lexer.proofs.Ascii.{AsciiFacts, encode-ascii, ascii-facts}
+use Rattle.lexer.proofs.Ways.{way-number, number-taken}
+use Rattle.lexer.proofs.NumberStarts.{some-read, two-read}
 
 -- ---- how long the text is
 second-length : (bytes : List ℕ) → length (lowerSecond bytes) ≡ length bytes
@@ -67,6 +72,16 @@ second-differs (a ∷ b ∷ cs) l u =
     let c = b .code in
     rw (encode-ascii (a .code) l, encode-ascii c (omega (arith, between-true 65 c 90 u .1)), u, ne-eqb (c + 32) c (λ e. omega arith), and-false)
 
+-- nor is it what an exponent in lower case makes
+second-lowered : (cs : List Char) → getD cs 0 ended .code < 0x80 → between 65 (getD cs 1 ended .code) 90 ≡ true → getD cs 1 ended .code ≢ 69
+    → same (lowerSecond (encoded cs)) (lowerE (encoded cs)) ≡ false
+unfolding same
+second-lowered [] l u n = absurd (false≢true u)
+second-lowered (a ∷ []) l u n = absurd (false≢true u)
+second-lowered (a ∷ b ∷ cs) l u n =
+    let c = b .code in
+    rw (encode-ascii (a .code) l, encode-ascii c (omega (arith, between-true 65 c 90 u .1)), u, ne-eqb c 69 n, ne-eqb (c + 32) c (λ e. omega arith), and-false)
+
 -- a difference behind is one of the whole
 behind : (front bytes : List ℕ) → same (lowerE bytes) bytes ≡ false → same (lowerE (front ++ bytes)) (front ++ bytes) ≡ false
 unfolding same
@@ -94,10 +109,29 @@ text-differs LowerExponent cs low h =
     let bytes = encoded cs in
     text-some (lowerE bytes) bytes (omega (arith, lowered-length bytes, h .1)) ∙ ap not (exponent-differs cs (h .0) (h .2))
 
+-- ---- no earlier spelling makes it
+no-octal : (text bytes : List ℕ) → 1 ≤ length bytes → length text ≡ length bytes → same text (gainO bytes) ≡ false
+no-octal text bytes some e = same-length text (gainO bytes) (λ z. omega (arith, z, e, gained-length bytes some))
+
+spelling-is : (sp : Spelling) (cs : List Char) → ((i : ℕ) → i < length (encoded cs) → getD cs i ended .code < 0x80) → Spelled sp cs (length (encoded cs))
+    → spellingOf (numberText sp (encoded cs)) (encoded cs) ≡ sp
+unfolding numberText
+spelling-is AsRead cs low h = rw (same-refl (encoded cs))
+spelling-is LowerPrefix cs low h =
+    let bytes = encoded cs in
+    let first = low 0 (omega (arith, h .0)) in
+    rw (second-differs cs first (h .1), no-octal (lowerSecond bytes) bytes (omega (arith, h .0)) (second-length bytes), second-lowered cs first (h .1) (h .2))
+spelling-is OctalPrefix cs low h =
+    let bytes = encoded cs in
+    rw (same-length (gainO bytes) bytes (λ e. omega (arith, e, gained-length bytes h)), same-refl (gainO bytes))
+spelling-is LowerExponent cs low h =
+    let bytes = encoded cs in
+    rw (exponent-differs cs (h .0) (h .2), no-octal (lowerE bytes) bytes (omega (arith, h .1)) (lowered-length bytes), same-refl (lowerE bytes))
+
 -- the first characters of a text tell of a spelling what the text does
 spelled-take : (sp : Spelling) (r : List Char) (n : ℕ) → Spelled sp r n → Spelled sp (take n r) n
 spelled-take AsRead r n h = tt
-spelled-take LowerPrefix r n h = (h .0, rw (getD-take n r 1 ended (omega (arith, h .0))) (h .1))
+spelled-take LowerPrefix r n h = rw (getD-take n r 1 ended (omega (arith, h .0))) h
 spelled-take OctalPrefix r n h = h
 spelled-take LowerExponent r n h = (h .0, h .1, ap (λ c. c .code) (getD-take n r (h .0) ended (h .1)) ∙ h .2)
 
@@ -132,9 +166,9 @@ module _ (s : List ℕ) (at : ℕ) where
   read : at + number (chars (drop at s)) .len - at ≡ number (chars (drop at s)) .len
   read = omega arith
 
-  pub numeral-said : said s at (numeralAt (numberAt at (number (chars (drop at s))))) ≡ placed s at (lexNumber (chars (drop at s)))
+  pub numeral-said : isNumber (chars (drop at s)) ≡ true → said s at (numeralAt (numberAt at (number (chars (drop at s))))) ≡ placed s at (lexNumber (chars (drop at s)))
   unfolding said placed lexNumber same
-  numeral-said =
+  numeral-said starts =
       let r = chars (drop at s) in
       let x = number r in
       let f = number-facts in
@@ -147,6 +181,11 @@ module _ (s : List ℕ) (at : ℕ) where
         end = rw (f .width);
         lfs = sym (f .lfs);
         strays = sym (f .strays);
+        textMaking =
+            ap NumberText (sym (spelling-is (x .spelling) cs low h))
+            ∙ way-number cs (shown (x .kind) (x .len) (numberText (x .spelling) (encoded cs)) (x .error) true)
+            (omega (arith, text-length (x .spelling) cs (encoded cs) h, f .size, some-read r starts)) (number-taken (x .len) r starts (some-read r starts) (two-read r starts));
+        valueMaking = rw (ne-eqb (x .kind) STRING (number-kind r STRING refl));
         textLength = exact-length (respelledBy (x .spelling)) _ 0 _ (rw read (omega (arith, f .size, text-length (x .spelling) cs (encoded cs) h))) (λ _. refl);
         valueLength = refl;
         textDiffers = rw (f .width, ← f .shown) (sym (text-differs (x .spelling) cs low h));

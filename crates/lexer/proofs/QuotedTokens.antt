@@ -3,6 +3,7 @@ use Prim.Native.Nat.{ℕ, zero, suc, _+_, _*_, _-_, _^_, _≤_, _<_, suc-le-suc}
 use mathlib.Core.Path.{_≡_, refl, sym, ap, _∙_}
 use mathlib.Core.Bool.{Bool, true, false, cond, not, _||_}
 use mathlib.Core.List.{List, [], _∷_}
+use mathlib.Core.Logic.{_⊎_, inl, inr, ⊎-elim}
 use native.Mathlib.Omega.{arith}
 use native.Mathlib.Numerals.{add-one}
 use native.Mathlib.Nat.{zero-add}
@@ -15,7 +16,7 @@ use Rattle.utf8.specs.declared.Char.{Char}
 use Rattle.utf8.specs.Chars.{ended, chars, widths, isStray, encoded}
 use Rattle.utf8.proofs.First.{ascii, chars-le}
 use Rattle.utf8.proofs.Places.{place-fits}
-use Rattle.kinds.specs.Kinds.{ILLEGAL, CHAR, STRING}
+use Rattle.kinds.specs.Kinds.{ILLEGAL, COMMENT, CHAR, STRING}
 use Rattle.quotes.specs.declared.Quoted.{Quoted}
 use Rattle.quotes.specs.Body.{Body, body, quotedAt, placed as bodyPlaced}
 use Rattle.quotes.proofs.Bodies.{strays-fit, closed-sound}
@@ -28,9 +29,11 @@ use Rattle.lexer.specs.declared.lexed.Value.{Value}
 use Rattle.lexer.specs.declared.lexed.Value.the-variants.{Empty as NoValue, Interpreted}
 use Rattle.lexer.specs.declared.lexed.Lexed.{Lexed}
 use Rattle.lexer.specs.Quotes.{stringOf, lexString, charOf, lexChar}
+use Rattle.lexer.specs.Making.{isNumber, isRaw}
 use Rattle.lexer.specs.Placed.{valueOf, lengthOf, said, placed}
 use Rattle.lexer.proofs.Said.{alike, exact-with-strays, text-some}
 use Rattle.lexer.proofs.Opened.{lexemeAs, open-chars, inside-token}
+use Rattle.lexer.proofs.Ways.{way-read}
 
 -- ---- counts of characters
 strays-count : (cs : List Char) → straysIn cs ≡ count isStray cs
@@ -63,7 +66,20 @@ literalAs q at kind error code value bytes differs =
       «value_differs» = differs;
     }
 
-module _ (quote : ℕ) (some : 0 < quote) (low : quote < 0x80) (no-lf : quote ≡ 10 → ⊥) (s : List ℕ) (at : ℕ) (there : getD s at 0 ≡ quote) where
+-- the quote of a string or of a character literal
+abbrev pub Quote : ℕ → Type 0
+Quote quote = (quote ≡ 34) ⊎ (quote ≡ 39)
+
+module _ (quote : ℕ) (is-quote : Quote quote) (s : List ℕ) (at : ℕ) (there : getD s at 0 ≡ quote) where
+  some : 0 < quote
+  some = ⊎-elim (λ e. omega arith) (λ e. omega arith) is-quote
+
+  low : quote < 0x80
+  low = ⊎-elim (λ e. omega arith) (λ e. omega arith) is-quote
+
+  no-lf : quote ≡ 10 → ⊥
+  no-lf z = ⊎-elim (λ e. omega arith) (λ e. omega arith) is-quote
+
   abbrev rest : List Char
   rest = chars (drop (at + 1) s)
 
@@ -80,7 +96,7 @@ module _ (quote : ℕ) (some : 0 < quote) (low : quote < 0x80) (no-lf : quote �
   first = open-chars s at quote some low there
 
   inside : at < length s
-  inside = reach s at (omega arith)
+  inside = reach s at (omega (arith, some))
 
   read-bytes : widths read ≡ suc size
   read-bytes = rw first (omega arith)
@@ -90,7 +106,7 @@ module _ (quote : ℕ) (some : 0 < quote) (low : quote < 0x80) (no-lf : quote �
 
   read-strays : count isStray read ≡ inner .strays
   read-strays =
-      rw (first, ne-eqb quote 0xFFFD (λ e. omega arith)) (zero-add _ ∙ sym (strays-count (take (inner .len) rest)) ∙ body-strays quote low rest)
+      rw (first, ne-eqb quote 0xFFFD (λ e. omega (arith, low))) (zero-add _ ∙ sym (strays-count (take (inner .len) rest)) ∙ body-strays quote low rest)
 
   read-fits : at + widths read ≤ length s
   read-fits = place-fits (suc (inner .len)) s at (omega (arith, inside))
@@ -105,12 +121,20 @@ module _ (quote : ℕ) (some : 0 < quote) (low : quote < 0x80) (no-lf : quote �
   literal-room q e h =
       rw e (omega arith, omega (arith, body-bound quote rest, chars-le (drop (at + 1) s), length-drop (at + 1) s, inside))
 
+  -- the quote starts no number and no raw string
+  no-number : isNumber read ≡ false
+  no-number = rw first (⊎-elim (λ e. rw e) (λ e. rw e) is-quote)
+
+  no-raw : isRaw read ≡ false
+  no-raw = rw first (⊎-elim (λ e. rw e) (λ e. rw e) is-quote)
+
   literal-said : (q : Quoted) → q ≡ quotedAt quote s (at + 1) → (kind error code : ℕ) (how : Value) (value : List ℕ) (bytes : ℕ) (differs : Bool)
+      → eqb kind COMMENT ≡ false → how ≡ cond (eqb kind STRING) Interpreted NoValue
       → valueOf how rest ≡ value → lengthOf bytes (inner .strays) differs ≡ length value
       → differs ≡ not (same value (cond (eqb kind STRING) (take (size - cond (eqb error 6) 0 1) (drop (at + 1) s)) []))
       → said s at (literalAs q at kind error code how bytes differs) ≡ placed s at (lexemeAs (suc (inner .len)) kind error code true (encoded read) value)
   unfolding said placed bodyPlaced
-  literal-said q e kind error code how value bytes differs v n d =
+  literal-said q e kind error code how value bytes differs k w v n d =
       let r = chars (drop at s) in
       let one = add-one (inner .len) in
       rw e
@@ -131,6 +155,9 @@ module _ (quote : ℕ) (some : 0 < quote) (low : quote < 0x80) (no-lf : quote �
         end = omega (arith, read-bytes);
         lfs = sym read-lfs;
         strays = sym read-strays;
+        textMaking =
+            way-read read (lexemeAs (suc (inner .len)) kind error code true (encoded read) value) (omega (arith, read-text)) no-number no-raw k;
+        valueMaking = rw no-raw w;
         textLength = exact-with-strays false _ (inner .strays) _ (omega (arith, read-text));
         valueLength = n;
         textDiffers =
@@ -141,10 +168,10 @@ module _ (quote : ℕ) (some : 0 < quote) (low : quote < 0x80) (no-lf : quote �
       }))
 
   -- one that has no value
-  literal-bare : (q : Quoted) → q ≡ quotedAt quote s (at + 1) → (kind error code : ℕ) → eqb kind STRING ≡ false
+  literal-bare : (q : Quoted) → q ≡ quotedAt quote s (at + 1) → (kind error code : ℕ) → eqb kind COMMENT ≡ false → eqb kind STRING ≡ false
       → said s at (literalAs q at kind error code NoValue 0 false) ≡ placed s at (lexemeAs (suc (inner .len)) kind error code true (encoded read) [])
   unfolding same
-  literal-bare q e kind error code k = literal-said q e kind error code NoValue [] 0 false refl refl (rw k)
+  literal-bare q e kind error code c k = literal-said q e kind error code NoValue [] 0 false c (rw k) refl refl (rw k)
 
 -- ---- strings
 module _ (s : List ℕ) (at : ℕ) (there : getD s at 0 ≡ 34) (q : Quoted) (is : q ≡ quotedAt 34 s (at + 1)) where
@@ -156,7 +183,7 @@ module _ (s : List ℕ) (at : ℕ) (there : getD s at 0 ≡ 34) (q : Quoted) (is
   unfolding bodyPlaced
   string-open h =
       let k : body 34 (chars (drop (at + 1) s)) .closed ≡ false = sym (ap (λ (x : Quoted). x .closed) is) ∙ h in
-      literal-bare 34 (omega arith) (omega arith) (λ z. omega arith) s at there q is ILLEGAL (q .error) 0 refl
+      literal-bare 34 (inl refl) s at there q is ILLEGAL (q .error) 0 refl refl
       ∙ ap (placed s at) (sym (string-body ∙ rw (k, is)))
 
   pub string-closed : q .closed ≡ true
@@ -166,7 +193,7 @@ module _ (s : List ℕ) (at : ℕ) (there : getD s at 0 ≡ 34) (q : Quoted) (is
       let b = body 34 (chars (drop (at + 1) s)) in
       let k : b .closed ≡ true = sym (ap (λ (x : Quoted). x .closed) is) ∙ h in
       let z : q .error ≡ 0 = ap (λ (x : Quoted). x .error) is ∙ closed-sound 34 (chars (drop (at + 1) s)) k in
-      literal-said 34 (omega arith) (omega arith) (λ z. omega arith) s at there q is STRING (q .error) 0 Interpreted (b .value) (q .bytes) _ refl
+      literal-said 34 (inl refl) s at there q is STRING (q .error) 0 Interpreted (b .value) (q .bytes) _ refl refl refl
       (rw is (exact-with-strays (b .escaped) _ (b .strays) (length (b .value)) (omega (arith, strays-fit 34 (chars (drop (at + 1) s)) 0))))
       (rw z (ap (λ (x : Quoted). x .escaped || not (eqb (x .strays) 0)) is ∙ sym (value-differs 34 (omega arith) s (at + 1) k)))
       ∙ ap (placed s at) (sym (string-body ∙ rw (k, is)))
@@ -181,7 +208,7 @@ module _ (s : List ℕ) (at : ℕ) (there : getD s at 0 ≡ 39) (q : Quoted) (is
   unfolding bodyPlaced
   char-open h =
       let k : body 39 (chars (drop (at + 1) s)) .closed ≡ false = sym (ap (λ (x : Quoted). x .closed) is) ∙ h in
-      literal-bare 39 (omega arith) (omega arith) (λ z. omega arith) s at there q is ILLEGAL (q .error) 0 refl
+      literal-bare 39 (inr refl) s at there q is ILLEGAL (q .error) 0 refl refl
       ∙ ap (placed s at) (sym (char-body ∙ rw (k, is)))
 
   module _ (h : q .closed ≡ true) where
@@ -193,7 +220,7 @@ module _ (s : List ℕ) (at : ℕ) (there : getD s at 0 ≡ 39) (q : Quoted) (is
     unfolding bodyPlaced
     char-none n =
         let m : eqb (body 39 (chars (drop (at + 1) s)) .count) 1 ≡ false = ne-eqb _ 1 (λ z. n (ap (λ (x : Quoted). x .count) is ∙ z)) in
-        literal-bare 39 (omega arith) (omega arith) (λ z. omega arith) s at there q is ILLEGAL 13 0 refl
+        literal-bare 39 (inr refl) s at there q is ILLEGAL 13 0 refl refl
         ∙ ap (placed s at) (sym (char-body ∙ rw (closed, m)))
 
     pub char-one : q .count ≡ 1 → said s at (literalAs q at CHAR (q .error) (q .code) NoValue 0 false) ≡ placed s at (lexChar (chars (drop at s)))
@@ -202,5 +229,5 @@ module _ (s : List ℕ) (at : ℕ) (there : getD s at 0 ≡ 39) (q : Quoted) (is
         let b = body 39 (chars (drop (at + 1) s)) in
         let m : b .count ≡ 1 = sym (ap (λ (x : Quoted). x .count) is) ∙ n in
         let z : q .error ≡ 0 = ap (λ (x : Quoted). x .error) is ∙ closed-sound 39 (chars (drop (at + 1) s)) closed in
-        literal-bare 39 (omega arith) (omega arith) (λ z. omega arith) s at there q is CHAR (q .error) (q .code) refl
+        literal-bare 39 (inr refl) s at there q is CHAR (q .error) (q .code) refl refl
         ∙ ap (placed s at) (sym (char-body ∙ rw (closed, m, z, is)))

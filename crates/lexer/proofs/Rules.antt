@@ -15,7 +15,7 @@ use Rattle.utf8.specs.Chars.{peek, encoded}
 use Rattle.utf8.proofs.Ends.{Ends, ends-tail, ends-some, peek-append}
 use Rattle.utf8.proofs.Runs.{run-bound, run-local}
 use Rattle.kinds.specs.Kinds.{ILLEGAL, EOF, IDENT, COMMENT}
-use Rattle.kinds.specs.Table.{identToken}
+use Rattle.kinds.specs.Table.{identToken, setsMark}
 use Rattle.digits.specs.Digit.{isDecimal}
 use Rattle.words.specs.Word.{isLetter, isWord, wordLen}
 use Rattle.words.proofs.Words.{word-run, feed-no-word}
@@ -30,7 +30,7 @@ use Rattle.spans.proofs.Spans.{stop-spanned, slash-spanned, stop-local, slash-l
 use Rattle.spans.proofs.LineEnds.{ends-local}
 use Rattle.operators.specs.Longest.{operatorOf}
 use Rattle.operators.proofs.Bounds.{operator-bound, operator-local, operator-none}
-use Rattle.lexer.specs.Lexeme.{Lexeme, bare, insertedSemicolon, setsMark}
+use Rattle.lexer.specs.Lexeme.{Lexeme, bare, insertedSemicolon}
 use Rattle.lexer.specs.Words.{wordOf, lexWord, lexNumber}
 use Rattle.lexer.specs.Quotes.{stringOf, lexString, charOf, lexChar, lexRaw}
 use Rattle.lexer.specs.Comments.{lineComment, generalComment, comment, lexComment}

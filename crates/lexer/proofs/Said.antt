@@ -20,6 +20,8 @@ pub record Alike (p q : Placed) : Type 0 where
   pub end : p .end ≡ q .end
   pub lfs : p .lfs ≡ q .lfs
   pub strays : p .strays ≡ q .strays
+  pub textMaking : p .textMaking ≡ q .textMaking
+  pub valueMaking : p .valueMaking ≡ q .valueMaking
   pub textLength : p .textLength ≡ q .textLength
   pub valueLength : p .valueLength ≡ q .valueLength
   pub textDiffers : p .textDiffers ≡ q .textDiffers
@@ -32,6 +34,8 @@ alike h =
       end = h .end i;
       lfs = h .lfs i;
       strays = h .strays i;
+      textMaking = h .textMaking i;
+      valueMaking = h .valueMaking i;
       textLength = h .textLength i;
       valueLength = h .valueLength i;
       textDiffers = h .textDiffers i;
@@ -73,6 +77,8 @@ semicolon-said s at =
       end = sym (add-zero at);
       lfs = refl;
       strays = refl;
+      textMaking = refl;
+      valueMaking = refl;
       textLength = refl;
       valueLength = refl;
       textDiffers = refl;

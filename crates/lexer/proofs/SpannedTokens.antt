@@ -30,9 +30,11 @@ use Rattle.lexer.specs.Lexeme.{insertedSemicolon}
 use Rattle.lexer.specs.Quotes.{rawOf, lexRaw}
 use Rattle.lexer.specs.Comments.{lineComment, generalComment, comment, lexComment}
 use Rattle.lexer.specs.Made.{insertedAt}
+use Rattle.lexer.specs.Making.{textWay, valueWay}
 use Rattle.lexer.specs.Placed.{textOf, valueOf, textDiffersIn, lengthOf, said, placed}
 use Rattle.lexer.proofs.Said.{alike, exact-with-strays, text-some, semicolon-said}
 use Rattle.lexer.proofs.Opened.{lexemeAs, Opened, opened-raw, opened-comment, open-chars, comment-chars, inside-token}
+use Rattle.lexer.proofs.Ways.{first-taken, way-without-cr, way-with-lf}
 
 -- a token by its body, with what the code sets itself
 abbrev pub bodyAs : Body → ℕ → ℕ → ℕ → Bool → Text → Value → ℕ → ℕ → Bool → Bool → Lexed
@@ -93,6 +95,9 @@ module _ (s : List ℕ) (at n : ℕ) (o : Opened s at n) (sp : Span) where
   text-length =
       sym (ap (λ k. length (clean read) + k) (o .crs (sp .len))) ∙ clean-length s (n + sp .len) at ∙ ap (λ k. k + 2 * count isStray read) (o .bytes (sp .len))
 
+  pub text-there : 0 < n → 0 < length (clean read)
+  text-there some = omega (arith, text-length, crs-fit)
+
   text-counted : (b : Body) → b ≡ bodyOf (at + n) sp rest → bytesOf b at + 2 * b .strays ≡ length (clean read)
   unfolding bodyOf
   text-counted b e = rw e (omega (arith, text-length, crs-fit, o .strays (sp .len)))
@@ -104,16 +109,17 @@ module _ (s : List ℕ) (at n : ℕ) (o : Opened s at n) (sp : Span) where
   unfolding bodyOf
   text-differs some b e =
       rw (e, ← o .crs (sp .len), ← o .strays (sp .len))
-      (sym (text-some (clean read) (take (widths read) (drop at s)) (omega (arith, text-length, crs-fit)) ∙ clean-differs s (n + sp .len) at (omega (arith, o .within))))
+      (sym (text-some (clean read) (take (widths read) (drop at s)) (text-there some) ∙ clean-differs s (n + sp .len) at (omega (arith, o .within))))
 
   span-said : (b : Body) → b ≡ bodyOf (at + n) sp rest → (kind error : ℕ) (mark : Bool) (how : Text) (way : Value) (text value : List ℕ) (bytes inside : ℕ) (differs other : Bool)
+      → how ≡ textWay read (lexemeAs (n + sp .len) kind error 0 mark text value) → way ≡ valueWay read (lexemeAs (n + sp .len) kind error 0 mark text value)
       → ((all : List ℕ) → textOf how read all ≡ text) → valueOf way (chars (drop (at + 1) s)) ≡ value
       → lengthOf bytes (b .strays) differs ≡ length text → lengthOf inside (b .strays) other ≡ length value
       → differs ≡ textDiffersIn text (take (widths read) (drop at s))
       → other ≡ not (same value (cond (eqb kind STRING) (take (length (take (widths read) (drop at s)) - cond (eqb error 6) 1 2) (drop 1 (take (widths read) (drop at s)))) []))
       → said s at (bodyAs b n kind error mark how way bytes inside differs other) ≡ placed s at (lexemeAs (n + sp .len) kind error 0 mark text value)
   unfolding said placed bodyOf
-  span-said b e kind error mark how way text value bytes inside differs other t v f g h k =
+  span-said b e kind error mark how way text value bytes inside differs other tw vw t v f g h k =
       let r = chars (drop at s) in
       let m : sp .len + n ≡ n + sp .len = omega arith in
       let u : (all : List ℕ) → textOf how (take (sp .len + n) r) all ≡ text = λ all. ap (λ l. textOf how (take l r) all) m ∙ t all in
@@ -135,6 +141,8 @@ module _ (s : List ℕ) (at n : ℕ) (o : Opened s at n) (sp : Span) where
         end = omega (arith, o .bytes (sp .len));
         lfs = sym (o .lfs (sp .len));
         strays = sym (o .strays (sp .len));
+        textMaking = tw;
+        valueMaking = vw;
         textLength = rw e at f;
         valueLength = rw e at g;
         textDiffers = h;
@@ -183,13 +191,18 @@ module _ (s : List ℕ) (at : ℕ) (there : getD s at 0 ≡ 96) (b : Body) (is :
         rw (c, t) (sym (clean-differs s k (at + 1) (raw-opened .within))),
       )
 
+  raw-first : peek rawRead ≡ 96
+  raw-first = first-taken (1 + rawSpan .len) (chars (drop at s)) (omega arith) ∙ ap peek (open-chars s at 96 (omega arith) (omega arith) there)
+
   raw-said : (error : ℕ) → cond (rawSpan .closed) 0 6 ≡ error → (inside : ℕ) → inside + 2 * b .strays ≡ length rawValue
       → differsOf b ≡ not (same rawValue (take (widths (take (rawSpan .len) (chars (drop (at + 1) s))) - cond (eqb error 6) 0 1) (drop (at + 1) s)))
       → said s at (bodyAs b 1 STRING error true WithoutCr Raw (bytesOf b at) inside (differsOf b) (differsOf b)) ≡ placed s at (lexRaw (chars (drop at s)))
   raw-said error e inside n d =
       let w : widths rawRead ≡ suc (widths (take (rawSpan .len) (chars (drop (at + 1) s)))) = omega (arith, raw-opened .bytes (rawSpan .len)) in
-      span-said s at 1 raw-opened rawSpan b is STRING error true WithoutCr Raw (clean rawRead) rawValue (bytesOf b at) inside (differsOf b) (differsOf b) (λ _. refl)
-      refl (text-exact s at 1 raw-opened rawSpan b is)
+      let x = lexemeAs (1 + rawSpan .len) STRING error 0 true (clean rawRead) rawValue in
+      span-said s at 1 raw-opened rawSpan b is STRING error true WithoutCr Raw (clean rawRead) rawValue (bytesOf b at) inside (differsOf b) (differsOf b)
+      (way-without-cr rawRead x (text-there s at 1 raw-opened rawSpan (omega arith)) (rw raw-first) (rw raw-first) refl) (rw raw-first)
+      (λ _. refl) refl (text-exact s at 1 raw-opened rawSpan b is)
       (exact-with-strays (not (eqb (b .crs) 0)) inside (b .strays) (length rawValue) n) (text-differs s at 1 raw-opened rawSpan (omega arith) b is)
       (d ∙ ap (λ l. not (same rawValue l)) (sym (inside-token (eqb error 6) s at (widths rawRead) _ w (read-fits s at 1 raw-opened rawSpan))))
       ∙ ap (placed s at) (sym (raw-lexeme ∙ ap (λ k. lexemeAs (1 + rawSpan .len) STRING k 0 true (clean rawRead) rawValue) e))
@@ -233,13 +246,20 @@ module _ (s : List ℕ) (at : ℕ) (there : getD s at 0 ≡ 96) (b : Body) (is :
 -- ---- comments
 module _ (s : List ℕ) (at : ℕ) (first : getD s at 0 ≡ 47) (mark : Bool) (b : Body) where
   -- closed or not, where only the text may differ
+  comment-first : (x k : ℕ) → 0 < x → x < 0x80 → getD s (at + 1) 0 ≡ x → peek (take (2 + k) (chars (drop at s))) ≡ 47
+  comment-first x k z l e = first-taken (2 + k) (chars (drop at s)) (omega arith) ∙ ap peek (comment-chars s at x z l first e)
+
   comment-said : (x : ℕ) → 13 < x → x < 0x80 → getD s (at + 1) 0 ≡ x → (sp : Span) → b ≡ bodyOf (at + 2) sp (chars (drop (at + 2) s)) → (error : ℕ)
       → said s at (bodyAs b 2 COMMENT error mark WithoutCr NoValue (bytesOf b at) 0 (differsOf b) false)
       ≡ placed s at (lexemeAs (2 + sp .len) COMMENT error 0 mark (clean (take (2 + sp .len) (chars (drop at s)))) [])
   unfolding same
   comment-said x l h second sp is error =
       let o = opened-comment s at x l h first second in
-      span-said s at 2 o sp b is COMMENT error mark WithoutCr NoValue _ [] (bytesOf b at) 0 (differsOf b) false (λ _. refl) refl
+      let cs = take (2 + sp .len) (chars (drop at s)) in
+      let f = comment-first x (sp .len) (omega arith) h second in
+      span-said s at 2 o sp b is COMMENT error mark WithoutCr NoValue _ [] (bytesOf b at) 0 (differsOf b) false
+      (way-without-cr cs (lexemeAs (2 + sp .len) COMMENT error 0 mark (clean cs) []) (text-there s at 2 o sp (omega arith)) (rw f) (rw f) refl) refl
+      (λ _. refl) refl
       (text-exact s at 2 o sp b is) refl (text-differs s at 2 o sp (omega arith) b is) refl
 
   module _ (second : getD s (at + 1) 0 ≡ 47) (is : b ≡ bodyOf (at + 2) (toStop 10 (chars (drop (at + 2) s))) (chars (drop (at + 2) s))) where
@@ -280,7 +300,10 @@ module _ (s : List ℕ) (at : ℕ) (first : getD s at 0 ≡ 47) (mark : Bool) (b
         let bytes = take (widths lineRead) (drop at s) in
         let fed : List ℕ = clean lineRead ++ (10 ∷ []) in
         let n = length-append (clean lineRead) (10 ∷ []) in
-        span-said s at 2 o lineSpan b is COMMENT 0 mark WithLf NoValue fed [] (bytesOf b at + 1) 0 true false (λ _. refl) refl
+        let f = comment-first 47 (lineSpan .len) (omega arith) (omega arith) second in
+        span-said s at 2 o lineSpan b is COMMENT 0 mark WithLf NoValue fed [] (bytesOf b at + 1) 0 true false
+        (way-with-lf lineRead (lexemeAs (2 + lineSpan .len) COMMENT 0 0 mark fed []) (omega (arith, n)) (rw f) (rw f) refl) refl
+        (λ _. refl) refl
         (omega (arith, n, text-counted s at 2 o lineSpan b is)) refl
         (sym (text-some fed bytes (omega (arith, n)) ∙ ap not (clean-fed s (2 + lineSpan .len) at (omega (arith, o .within))))) refl
         ∙ ap (placed s at) (sym (line-lexeme ∙ rw c))

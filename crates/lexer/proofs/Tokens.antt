@@ -1,7 +1,7 @@
 -- What is said of words, operators and characters that start no token is right.
 use Prim.Native.Nat.{ℕ, zero, suc, _+_, _-_, _≤_, _<_}
 use mathlib.Core.Path.{_≡_, refl, sym, ap, _∙_}
-use mathlib.Core.Bool.{Bool, true, false, cond, not, _&&_, false≢true}
+use mathlib.Core.Bool.{Bool, true, false, cond, not, _&&_, false≢true, and-false}
 use mathlib.Core.List.{List, [], _∷_, _++_, append-nil}
 use mathlib.Core.Logic.{_≢_, ⊎-elim}
 use native.Mathlib.Omega.{arith}
@@ -16,14 +16,15 @@ use Rattle.basics.proofs.Every.{each}
 use Rattle.basics.proofs.Lists.{same-length}
 use Rattle.utf8.specs.declared.Char.{Char}
 use Rattle.utf8.specs.Chars.{ended, firstChar, charAt, chars, widths, isStray, encode, encoded}
-use Rattle.utf8.proofs.First.{chars-at, charAt-in, chars-le, first-fits}
-use Rattle.utf8.proofs.Places.{ascii-only, code-there}
+use Rattle.utf8.proofs.First.{chars-at, charAt-in, chars-le, first-fits, first-least}
+use Rattle.utf8.proofs.Places.{ascii-only, test-there, test-next, code-there}
 use Rattle.utf8.proofs.Runs.{run-bound, run-passes, run-no-feed}
 use Rattle.utf8.proofs.Encoding.{first-coded}
-use Rattle.kinds.specs.Kinds.{ILLEGAL, IDENT, STRING}
-use Rattle.kinds.specs.Table.{operators, identToken}
-use Rattle.words.specs.Word.{isWord, wordLen}
-use Rattle.words.proofs.Words.{word-high, word-run, feed-no-word}
+use Rattle.kinds.specs.Kinds.{ILLEGAL, COMMENT, IDENT, STRING}
+use Rattle.kinds.specs.Table.{operators, identToken, setsMark}
+use Rattle.digits.specs.Digit.{isDecimal}
+use Rattle.words.specs.Word.{isLetter, isWord, wordLen}
+use Rattle.words.proofs.Words.{letter-high, word-high, word-run, feed-no-word}
 use Rattle.quotes.proofs.Places.{stray-there}
 use Rattle.operators.specs.declared.Operator.{Operator}
 use Rattle.operators.specs.Longest.{begins, operatorOf}
@@ -31,14 +32,16 @@ use Rattle.operators.proofs.Bounds.{operator-bound, longest-ind}
 use Rattle.lexer.specs.declared.lexed.Text.the-variants.{Empty, AsRead}
 use Rattle.lexer.specs.declared.lexed.Value.the-variants.{Empty as NoValue}
 use Rattle.lexer.specs.declared.lexed.Lexed.{Lexed}
-use Rattle.lexer.specs.Lexeme.{shown, bare, setsMark}
+use Rattle.lexer.specs.Lexeme.{shown, bare}
 use Rattle.lexer.specs.Words.{wordOf, lexWord}
 use Rattle.lexer.specs.Lex.{lexIllegal, lexOperator}
 use Rattle.lexer.specs.Made.{madeAt, shownAt}
+use Rattle.lexer.specs.Making.{isNumber, isRaw, textWay}
 use Rattle.lexer.specs.Placed.{textDiffersIn, placed, said}
 use Rattle.lexer.proofs.Known.{word-no-string, operator-no-string}
 use Rattle.lexer.proofs.Said.{alike, exact-length, text-same, text-some}
 use Rattle.lexer.proofs.Ascii.{Ascii, ascii-none, ascii-facts}
+use Rattle.lexer.proofs.Ways.{way-read, decimal-high, word-starts}
 
 -- ---- tokens of n ASCII characters
 module _ (s : List ℕ) (at end n kind : ℕ) (mark : Bool) (a : Ascii n (chars (drop at s))) (e : end ≡ at + n) (k : kind ≢ STRING) where
@@ -55,23 +58,29 @@ module _ (s : List ℕ) (at end n kind : ℕ) (mark : Bool) (a : Ascii n (chars 
         end = rw (f .width) e;
         lfs = sym (f .lfs);
         strays = sym (f .strays);
+        textMaking = refl;
+        valueMaking = rw (ne-eqb kind STRING k);
         textLength = refl;
         valueLength = refl;
         textDiffers = refl;
         valueDiffers = rw (ne-eqb kind STRING k);
       })
 
-  pub shown-said : said s at (shownAt kind at end mark) ≡ placed s at (shown kind n (encoded (take n (chars (drop at s)))) 0 mark)
+  pub shown-said : 0 < n → eqb kind COMMENT ≡ false → isNumber (take n (chars (drop at s))) ≡ false → isRaw (take n (chars (drop at s))) ≡ false
+      → said s at (shownAt kind at end mark) ≡ placed s at (shown kind n (encoded (take n (chars (drop at s)))) 0 mark)
   unfolding said placed same
-  shown-said =
+  shown-said some no-comment no-number no-raw =
       let f = ascii-facts n s at a in
-      let text = encoded (take n (chars (drop at s))) in
+      let cs = take n (chars (drop at s)) in
+      let text = encoded cs in
       alike
       (record {
         lexeme = rw read;
         end = rw (f .width) e;
         lfs = sym (f .lfs);
         strays = sym (f .strays);
+        textMaking = way-read cs (shown kind n text 0 mark) (rw (f .size) some) no-number no-raw no-comment;
+        valueMaking = rw (ne-eqb kind STRING k);
         textLength = rw (read, f .size) (add-zero n);
         valueLength = refl;
         textDiffers = sym (text-same text (take (widths (take n (chars (drop at s)))) (drop at s)) (rw (f .width) (f .shown)));
@@ -109,10 +118,11 @@ module _ (s : List ℕ) (at end kind : ℕ) (e : end ≡ at + wordLen (chars (dr
   no-string : kind ≢ STRING
   no-string z = word-no-string word (sym word-kind ∙ z)
 
-  pub identifier-said : kind ≡ IDENT → said s at (shownAt kind at end true) ≡ placed s at (lexWord (chars (drop at s)))
+  pub identifier-said : isLetter (getD s at 0) ≡ true → kind ≡ IDENT → said s at (shownAt kind at end true) ≡ placed s at (lexWord (chars (drop at s)))
   unfolding n word
-  identifier-said i =
-      shown-said s at end n kind true (word-plain (chars (drop at s))) e no-string
+  identifier-said l i =
+      let w = word-starts (chars (drop at s)) (test-next s at isLetter letter-high ∙ l) in
+      shown-said s at end n kind true (word-plain (chars (drop at s))) e no-string (w .0) (rw i) (w .1) (w .2)
       ∙ ap (placed s at) (ap (λ k. shown k n word 0 true) word-kind ∙ identifier-is n word (sym word-kind ∙ i))
 
   pub keyword-said : kind ≢ IDENT → said s at (madeAt kind at end (setsMark kind) Empty NoValue) ≡ placed s at (lexWord (chars (drop at s)))
@@ -202,7 +212,14 @@ module _ (s : List ℕ) (at : ℕ) (h : at < length s) where
       (λ (t : isStray f ≡ false). text-same text bytes (append-nil (encode (f .code)) ∙ first-coded (drop at s) some t) ∙ sym t)
       (either (isStray f))
 
-  module _ (mark : Bool) (no-lf : eqb (getD s at 0) 10 ≡ false) where
+  module _ (mark : Bool) (no-lf : eqb (getD s at 0) 10 ≡ false) (no-digit : isDecimal (getD s at 0) ≡ false) (no-quote : eqb (getD s at 0) 96 ≡ false) where
+    first-way : AsRead ≡ textWay (take 1 (chars (drop at s))) (lexIllegal mark 1 (chars (drop at s)))
+    first-way =
+        let r = chars (drop at s) in
+        let e = chars-at s at h in
+        way-read (take 1 r) (lexIllegal mark 1 r) (rw (e, append-nil, stray-there s at h) (omega (arith, first-least (drop at s))))
+        (rw (e, test-there s at isDecimal decimal-high h, no-digit, and-false)) (rw (e, code-there s at 96 h (lit< tt)) no-quote) refl
+
     first-said : said s at (illegalAt at (firstChar (drop at s) .width) mark (isStray (firstChar (drop at s)))) ≡ placed s at (lexIllegal mark 1 (chars (drop at s)))
     unfolding said placed same
     first-said =
@@ -214,6 +231,8 @@ module _ (s : List ℕ) (at : ℕ) (h : at < length s) where
           end = rw e (omega arith);
           lfs = rw (e, code-there s at 10 h (lit< tt), no-lf);
           strays = rw e (sym (add-zero _));
+          textMaking = first-way;
+          valueMaking = refl;
           textLength = exact-length (isStray f) (at + f .width - at) (cond (isStray f) 1 0) _ (rw (e, append-nil, stray-there s at h) (omega arith)) (λ t. rw t);
           valueLength = refl;
           textDiffers = rw (e, add-zero) (sym differs);

@@ -2,6 +2,7 @@
 use Prim.Native.String.{String}
 use mathlib.Core.Path.{_≡_, refl}
 use mathlib.Core.Bool.{Bool, true, false}
+use lib.ListN.{take}
 use Rattle.basics.specs.Same.{same}
 use Rattle.basics.specs.Spelling.{spelled}
 use Rattle.utf8.specs.Chars.{charsFrom, chars, firstChar, octets, encode}
@@ -11,20 +12,25 @@ use Rattle.digits.specs.Digit.{digitVal}
 use Rattle.words.specs.Word.{isLetter, isWord, wordLen}
 use Rattle.blanks.specs.Blank.{isSpace, isBlank, skip}
 use Rattle.operators.specs.Longest.{begins, longest}
+use Rattle.numbers.specs.declared.Spelling.the-variants.{LowerPrefix, OctalPrefix}
 use Rattle.numbers.specs.Run.{digitRun, strictRun}
 use Rattle.numbers.specs.Number.{decimal, prefixed, bareZero, leadingZero, withoutI, number}
 use Rattle.numbers.specs.Spelling.{numberText}
 use Rattle.quotes.specs.Numeral.{numeral}
 use Rattle.quotes.specs.Escape.{letter, byteOf, octalEscape, escapeOf}
 use Rattle.quotes.specs.Body.{bodyFrom}
-use Rattle.spans.specs.Span.{toStarSlash}
+use Rattle.spans.specs.Span.{toStop, toStarSlash}
 use Rattle.spans.specs.Body.{clean}
 use Rattle.spans.specs.Line.{blankToEnd, endsLine}
+use Rattle.lexer.specs.declared.lexed.Text.{Text}
+use Rattle.lexer.specs.declared.lexed.Text.the-variants.{Number, WithoutCr, WithLf}
+use Rattle.lexer.specs.declared.lexed.Value.the-variants.{Raw}
 use Rattle.lexer.specs.Lexeme.{Lexeme, shown, bare, insertedSemicolon, raise}
 use Rattle.lexer.specs.Words.{wordOf, lexNumber}
-use Rattle.lexer.specs.Quotes.{lexString, lexChar}
+use Rattle.lexer.specs.Quotes.{lexString, lexChar, lexRaw}
 use Rattle.lexer.specs.Comments.{comment, lexComment}
 use Rattle.lexer.specs.Lex.{lexOperator, lexDot, lexSlash, lexBy, lexToken, lex}
+use Rattle.lexer.specs.Making.{textWay, valueWay}
 
 -- the first scan of a text, with or without the mark
 abbrev first : Bool → String → Lexeme
@@ -83,3 +89,24 @@ inside = refl
 at-end : first true " /* c */" ≡ raise 1 insertedSemicolon
 unfolding charsFrom firstChar octets encode skip isBlank isSpace isLetter blankToEnd endsLine lexComment lexSlash lexBy lexToken lex
 at-end = refl
+
+-- ---- how text and value of the first token are made
+abbrev way : String → Text
+way s = let r = chars (spelled s) in let x = lexToken false r in textWay (take (x .len) r) x
+
+octal-way : way "08" ≡ Number OctalPrefix
+unfolding same charsFrom firstChar octets encode isLetter digitVal digitRun strictRun decimal prefixed bareZero leadingZero withoutI number numberText lexNumber lexBy lexToken
+octal-way = refl
+
+prefix-way : way "0X1F" ≡ Number LowerPrefix
+unfolding same charsFrom firstChar octets encode isLetter digitVal digitRun strictRun decimal prefixed bareZero leadingZero withoutI number numberText lexNumber lexBy lexToken
+prefix-way = refl
+
+line-way : way "// c" ≡ WithLf
+unfolding same charsFrom firstChar octets encode isLetter toStop clean comment lexComment lexSlash lexBy lexToken
+line-way = refl
+
+-- a raw string
+raw-way : let r = chars (spelled "`c`") in let x = lexToken false r in (textWay (take (x .len) r) x ≡ WithoutCr) × (valueWay (take (x .len) r) x ≡ Raw)
+unfolding same charsFrom firstChar octets encode isLetter toStop clean lexRaw lexBy lexToken
+raw-way = (refl, refl)

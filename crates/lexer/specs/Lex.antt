@@ -1,5 +1,6 @@
 -- One scan: blanks, then one rule by the first character. The mark is what 01 calls "now".
 use Prim.Native.Nat.{ℕ}
+use Prim.Native.Char.{code}
 use mathlib.Core.Bool.{Bool, false, cond, _&&_, _||_, not}
 use mathlib.Core.List.{List, [], _∷_}
 use lib.Dec.{eqb}
@@ -7,11 +8,12 @@ use lib.ListN.{take, drop}
 use Rattle.utf8.specs.declared.Char.{Char}
 use Rattle.utf8.specs.Chars.{peek, encoded}
 use Rattle.kinds.specs.Kinds.{ILLEGAL, EOF}
+use Rattle.kinds.specs.Table.{setsMark}
 use Rattle.digits.specs.Digit.{isDecimal}
 use Rattle.words.specs.Word.{isLetter}
 use Rattle.blanks.specs.Blank.{skip}
 use Rattle.operators.specs.Longest.{operatorOf}
-use Rattle.lexer.specs.Lexeme.{Lexeme, shown, bare, insertedSemicolon, raise, setsMark}
+use Rattle.lexer.specs.Lexeme.{Lexeme, shown, bare, insertedSemicolon, raise}
 use Rattle.lexer.specs.Words.{lexWord, lexNumber}
 use Rattle.lexer.specs.Quotes.{lexString, lexChar, lexRaw}
 use Rattle.lexer.specs.Comments.{lexComment}
@@ -29,21 +31,21 @@ lexOperator mark r =
 unfoldable pub lexDot : Bool → List Char → Lexeme
 lexDot mark r =
     cond (isDecimal (peek (drop 1 r))) (lexNumber r)
-    (cond (eqb (peek (drop 1 r)) 46 && not (eqb (peek (drop 2 r)) 46)) (lexIllegal mark 2 r) (lexOperator mark r))
+    (cond (eqb (peek (drop 1 r)) (code ".") && not (eqb (peek (drop 2 r)) (code "."))) (lexIllegal mark 2 r) (lexOperator mark r))
 
 -- "`//` or `/*`" is a comment
 unfoldable pub lexSlash : Bool → List Char → Lexeme
-lexSlash mark r = cond (eqb (peek (drop 1 r)) 47 || eqb (peek (drop 1 r)) 42) (lexComment mark r) (lexOperator mark r)
+lexSlash mark r = cond (eqb (peek (drop 1 r)) (code "/") || eqb (peek (drop 1 r)) (code "*")) (lexComment mark r) (lexOperator mark r)
 
 -- by the first character, c
 unfoldable pub lexBy : Bool → ℕ → List Char → Lexeme
 lexBy mark c r =
     cond (isLetter c) (lexWord r)
     (cond (isDecimal c) (lexNumber r)
-    (cond (eqb c 10) insertedSemicolon
-    (cond (eqb c 34) (lexString r)
-    (cond (eqb c 39) (lexChar r)
-    (cond (eqb c 96) (lexRaw r) (cond (eqb c 46) (lexDot mark r) (cond (eqb c 47) (lexSlash mark r) (lexOperator mark r))))))))
+    (cond (eqb c (code "\n")) insertedSemicolon
+    (cond (eqb c (code "\"")) (lexString r)
+    (cond (eqb c (code "'")) (lexChar r)
+    (cond (eqb c (code "`")) (lexRaw r) (cond (eqb c (code ".")) (lexDot mark r) (cond (eqb c (code "/")) (lexSlash mark r) (lexOperator mark r))))))))
 
 -- after the blanks; "LF, or the end, with "now" set: an inserted SEMICOLON .. At the end without it: EOF."
 unfoldable pub lexToken : Bool → List Char → Lexeme

@@ -3,8 +3,8 @@ use Prim.Native.Nat.{ℕ, _+_}
 use mathlib.Core.Bool.{Bool, true, false}
 use mathlib.Core.List.{List, [], _∷_}
 use mathlib.Core.Logic.{_≢_}
-use Rattle.kinds.specs.Kinds.{SEMICOLON, IDENT, INC, DEC, RPAREN, RBRACK, RBRACE, BREAK, CONTINUE, FALLTHROUGH, RETURN}
-use Rattle.kinds.specs.Precedence.{among}
+use Rattle.kinds.specs.Kinds.{SEMICOLON}
+use Rattle.errors.specs.Numbers.{OPEN-RAW-STRING, OPEN-COMMENT}
 
 pub record Lexeme : Type 0 where
   -- blanks skipped before it, and characters read
@@ -26,9 +26,9 @@ pub record Lexeme : Type 0 where
 abbrev pub taken : Lexeme → ℕ
 taken x = x .skipped + x .len
 
--- an error, or 0, that is neither an open raw string (6) nor an open comment (7)
+-- an error, or 0, that is neither an open raw string nor an open comment
 abbrev pub Shut : ℕ → Type 0
-Shut error = (error ≢ 6) × (error ≢ 7)
+Shut error = (error ≢ OPEN-RAW-STRING) × (error ≢ OPEN-COMMENT)
 
 -- a token with a text and no value
 abbrev pub shown : ℕ → ℕ → List ℕ → ℕ → Bool → Lexeme
@@ -58,7 +58,3 @@ raise n x =
       error = x .error;
       mark = x .mark;
     }
-
--- "The mark is set after IDENT, .. `++ -- ) ] }`, break, continue, fallthrough, return."
-abbrev pub setsMark : ℕ → Bool
-setsMark kind = among kind (IDENT ∷ INC ∷ DEC ∷ RPAREN ∷ RBRACK ∷ RBRACE ∷ BREAK ∷ CONTINUE ∷ FALLTHROUGH ∷ RETURN ∷ [])

@@ -1,8 +1,13 @@
--- The answers that the code makes, step by step.
-use Prim.Native.Nat.{ℕ, _+_, _-_}
+-- The answers that the code makes, step by step: no public contract cites them.
+use Prim.Native.Nat.{ℕ, _+_, _-_, _<_}
+pub use Prim.Native.Char.{code}
+use mathlib.Core.Path.{_≡_}
 use mathlib.Core.Bool.{Bool, true, false, not, _||_}
+use mathlib.Core.List.{List}
 use lib.Dec.{eqb}
+use lib.ListN.{length, getD}
 use Rattle.kinds.specs.Kinds.{SEMICOLON}
+use Rattle.digits.specs.Digit.{isDecimal}
 use Rattle.numbers.specs.declared.Spelling.{Spelling}
 use Rattle.numbers.specs.declared.Spelling.the-variants.{AsRead as Same, LowerPrefix, OctalPrefix, LowerExponent}
 use Rattle.quotes.specs.declared.Quoted.{Quoted}
@@ -12,6 +17,10 @@ use Rattle.lexer.specs.declared.lexed.Text.the-variants.{Empty, AsRead}
 use Rattle.lexer.specs.declared.lexed.Value.{Value}
 use Rattle.lexer.specs.declared.lexed.Value.the-variants.{Empty as NoValue}
 use Rattle.lexer.specs.declared.lexed.Lexed.{Lexed}
+
+-- a byte stands there, which is no line feed, no digit and no backquote
+abbrev pub StartsOther : List ℕ → ℕ → Type 0
+StartsOther s at = (at < length s) × (eqb (getD s at 0) (code "\n") ≡ false) × (isDecimal (getD s at 0) ≡ false) × (eqb (getD s at 0) (code "`") ≡ false)
 
 -- a token with all that may differ between tokens of ASCII characters
 abbrev pub answer : ℕ → ℕ → ℕ → Bool → Bool → Text → Value → ℕ → Lexed

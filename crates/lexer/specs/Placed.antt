@@ -1,5 +1,6 @@
 -- What is said of a token that was read at a place of a source: the lexeme, and how it stands in the bytes.
 use Prim.Native.Nat.{ℕ, _+_, _*_, _-_}
+use Prim.Native.Char.{code}
 use mathlib.Core.Bool.{Bool, false, cond, not}
 use mathlib.Core.List.{List, [], _∷_, _++_}
 use lib.Dec.{eqb}
@@ -8,6 +9,7 @@ use Rattle.basics.specs.Same.{same}
 use Rattle.utf8.specs.declared.Char.{Char}
 use Rattle.utf8.specs.Chars.{chars, widths, isStray, encoded}
 use Rattle.kinds.specs.Kinds.{STRING}
+use Rattle.errors.specs.Numbers.{OPEN-RAW-STRING}
 use Rattle.numbers.specs.Spelling.{numberText}
 use Rattle.quotes.specs.Body.{body}
 use Rattle.spans.specs.Span.{toStop}
@@ -19,6 +21,7 @@ use Rattle.lexer.specs.declared.lexed.Value.{Value}
 use Rattle.lexer.specs.declared.lexed.Value.the-variants.{Empty as NoValue, Interpreted, Raw}
 use Rattle.lexer.specs.declared.lexed.Lexed.{Lexed}
 use Rattle.lexer.specs.Lexeme.{Lexeme}
+use Rattle.lexer.specs.Making.{textWay, valueWay}
 
 -- the text for each way of making it, from the characters read, and for a number from their bytes
 abbrev pub textOf : Text → List Char → List ℕ → List ℕ
@@ -26,13 +29,13 @@ textOf Empty cs bytes = []
 textOf AsRead cs bytes = encoded cs
 textOf (Number spelling) cs bytes = numberText spelling bytes
 textOf WithoutCr cs bytes = clean cs
-textOf WithLf cs bytes = clean cs ++ (10 ∷ [])
+textOf WithLf cs bytes = clean cs ++ (code "\n" ∷ [])
 
 -- the value for each way of making it, from the characters after the opening quote
 abbrev pub valueOf : Value → List Char → List ℕ
 valueOf NoValue r = []
-valueOf Interpreted r = body 34 r .value
-valueOf Raw r = clean (take (rawInside (toStop 96 r)) r)
+valueOf Interpreted r = body (code "\"") r .value
+valueOf Raw r = clean (take (rawInside (toStop (code "`") r)) r)
 
 -- a lexeme in the bytes of a source
 pub record Placed : Type 0 where
@@ -42,7 +45,10 @@ pub record Placed : Type 0 where
   -- how many of its characters are line feeds and stray bytes
   pub lfs : ℕ
   pub strays : ℕ
-  -- how many bytes text and value have
+  -- how text and value are made of its characters
+  pub textMaking : Text
+  pub valueMaking : Value
+  -- how many bytes they have
   pub textLength : ℕ
   pub valueLength : ℕ
   -- are they other bytes than those of the source?
@@ -51,7 +57,7 @@ pub record Placed : Type 0 where
 
 -- "the bytes after the opening quote up to the closing one or the end", of the bytes of a token
 abbrev pub valueRead : Lexeme → List ℕ → List ℕ
-valueRead x bytes = cond (eqb (x .kind) STRING) (take (length bytes - cond (eqb (x .error) 6) 1 2) (drop 1 bytes)) []
+valueRead x bytes = cond (eqb (x .kind) STRING) (take (length bytes - cond (eqb (x .error) OPEN-RAW-STRING) 1 2) (drop 1 bytes)) []
 
 -- "Where the text equals the bytes read .. it is shown from the source." A token that has none shows none
 abbrev pub textDiffersIn : List ℕ → List ℕ → Bool
@@ -66,6 +72,8 @@ placedIn at x cs bytes =
       end = at + widths cs;
       lfs = count isLf cs;
       strays = count isStray cs;
+      textMaking = textWay cs x;
+      valueMaking = valueWay cs x;
       textLength = length (x .text);
       valueLength = length (x .value);
       textDiffers = textDiffersIn (x .text) bytes;
@@ -101,6 +109,8 @@ said s at x =
       end = x .end;
       lfs = x .lfs;
       strays = x .strays;
+      textMaking = x .text;
+      valueMaking = x .value;
       textLength = lengthOf (x .«text_bytes») (x .strays) (x .«text_differs»);
       valueLength = lengthOf (x .«value_bytes») (x .strays) (x .«value_differs»);
       textDiffers = x .«text_differs»;

@@ -7,11 +7,11 @@ use lib.ListN.{take}
 use Rattle.utf8.specs.declared.Char.{Char}
 use Rattle.utf8.specs.Chars.{encoded}
 use Rattle.kinds.specs.Kinds.{IDENT}
-use Rattle.kinds.specs.Table.{identToken}
+use Rattle.kinds.specs.Table.{identToken, setsMark}
 use Rattle.words.specs.Word.{wordLen}
 use Rattle.numbers.specs.Number.{number}
 use Rattle.numbers.specs.Spelling.{numberText}
-use Rattle.lexer.specs.Lexeme.{Lexeme, shown, bare, setsMark}
+use Rattle.lexer.specs.Lexeme.{Lexeme, shown, bare}
 
 -- "one of the 25 keywords, else IDENT"
 unfoldable pub wordOf : ℕ → List ℕ → Lexeme

@@ -12,7 +12,7 @@ ghost use Rattle.utf8.specs.Chars.{chars};
 ghost use Rattle.lexer.specs.Quotes.{lexRaw};
 ghost use Rattle.lexer.specs.Comments.{comment, lexComment};
 ghost use Rattle.lexer.specs.Placed.{said, placed};
-ghost use Rattle.lexer.specs.Made.{spannedAs};
+ghost use Rattle.lexer.specs.Made.{code, spannedAs};
 
 // A token at a place by its body, which stands after `opening` characters; its text is without CR, and its value is not counted yet.
 fn spanned(
@@ -39,7 +39,7 @@ fn spanned(
 
 // The raw string at a place that holds a backquote.
 pub(crate) fn lex_raw(src: &[u8], at: usize) -> Lexed
-    requires { ⌜ getD (now src) at 0 ≡ 96 ⌝ }
+    requires { ⌜ getD (now src) at 0 ≡ code "`" ⌝ }
     ensures { λ r. ⌜ said (now (src .entry)) at r ≡ placed (now (src .entry)) at (lexRaw (chars (drop at (now (src .entry))))) ⌝ }
 {
     let b = spans::raw_body(src, at + 1);
@@ -50,13 +50,13 @@ pub(crate) fn lex_raw(src: &[u8], at: usize) -> Lexed
         return x;
     }
     x.value_bytes = x.text_bytes - 1;
-    x.error = 6;
+    x.error = errors::OPEN_RAW_STRING;
     x
 }
 
 // The line comment at a place that holds two slashes; one that is not closed gains a line feed.
 fn line_comment(src: &[u8], at: usize, mark: bool) -> Lexed
-    requires { ⌜ (getD (now src) at 0 ≡ 47) × (getD (now src) (at + 1) 0 ≡ 47) ⌝ }
+    requires { ⌜ (getD (now src) at 0 ≡ code "/") × (getD (now src) (at + 1) 0 ≡ code "/") ⌝ }
     ensures { λ r. ⌜ said (now (src .entry)) at r ≡ placed (now (src .entry)) at (comment mark (chars (drop at (now (src .entry))))) ⌝ }
 {
     let b = spans::line_body(src, at + 2);
@@ -79,7 +79,7 @@ fn line_comment(src: &[u8], at: usize, mark: bool) -> Lexed
 
 // The general comment at a place that holds a slash and a star.
 fn general_comment(src: &[u8], at: usize, mark: bool) -> Lexed
-    requires { ⌜ (getD (now src) at 0 ≡ 47) × (getD (now src) (at + 1) 0 ≡ 42) ⌝ }
+    requires { ⌜ (getD (now src) at 0 ≡ code "/") × (getD (now src) (at + 1) 0 ≡ code "*") ⌝ }
     ensures { λ r. ⌜ said (now (src .entry)) at r ≡ placed (now (src .entry)) at (comment mark (chars (drop at (now (src .entry))))) ⌝ }
 {
     let b = spans::block_body(src, at + 2);
@@ -93,17 +93,17 @@ fn general_comment(src: &[u8], at: usize, mark: bool) -> Lexed
         Value::Empty,
     );
     if !b.closed {
-        x.error = 7;
+        x.error = errors::OPEN_COMMENT;
     }
     x
 }
 
 // The comment at a place, by the byte after its slash. One that ends the line is an inserted semicolon where the mark is set.
 pub(crate) fn lex_comment(src: &[u8], at: usize, second: u8, mark: bool) -> Lexed
-    requires { ⌜ (getD (now src) at 0 ≡ 47) × (getD (now src) (at + 1) 0 ≡ second) × ((second ≡ 47) ⊎ (second ≡ 42)) ⌝ }
+    requires { ⌜ (getD (now src) at 0 ≡ code "/") × (getD (now src) (at + 1) 0 ≡ second) × ((second ≡ code "/") ⊎ (second ≡ code "*")) ⌝ }
     ensures { λ r. ⌜ said (now (src .entry)) at r ≡ placed (now (src .entry)) at (lexComment mark (chars (drop at (now (src .entry))))) ⌝ }
 {
-    if second == 47 {
+    if second == b'/' {
         if mark {
             return inserted_semicolon(at);
         }

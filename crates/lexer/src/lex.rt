@@ -4,7 +4,6 @@ use crate::comments::lex_raw;
 use crate::lexed::Lexed;
 use crate::lexed::bare;
 use crate::lexed::inserted_semicolon;
-use crate::lexed::sets_mark;
 use crate::lexed::shown;
 use crate::number::lex_number;
 use crate::quoted::lex_char;
@@ -19,10 +18,11 @@ ghost use Rattle.utf8.specs.Chars.{chars};
 ghost use Rattle.digits.specs.Digit.{isDecimal};
 ghost use Rattle.lexer.specs.Lex.{lexIllegal, lexOperator, lexDot, lexSlash, lexToken};
 ghost use Rattle.lexer.specs.Placed.{said, placed};
+ghost use Rattle.lexer.specs.Made.{code, StartsOther};
 
 // A single character that starts no token.
 fn lex_illegal(src: &[u8], at: usize, mark: bool) -> Lexed
-    requires { ⌜ (at < length (now src)) × (eqb (getD (now src) at 0) 10 ≡ false) ⌝ }
+    requires { ⌜ StartsOther (now src) at ⌝ }
     ensures { λ r. ⌜ said (now (src .entry)) at r ≡ placed (now (src .entry)) at (lexIllegal mark 1 (chars (drop at (now (src .entry))))) ⌝ }
 {
     let c = reader::char_from(src, at);
@@ -37,7 +37,7 @@ fn lex_illegal(src: &[u8], at: usize, mark: bool) -> Lexed
 
 // The operator at a place, or a character that starts none.
 fn lex_operator(src: &[u8], at: usize, mark: bool) -> Lexed
-    requires { ⌜ (at < length (now src)) × (eqb (getD (now src) at 0) 10 ≡ false) ⌝ }
+    requires { ⌜ StartsOther (now src) at ⌝ }
     ensures { λ r. ⌜ said (now (src .entry)) at r ≡ placed (now (src .entry)) at (lexOperator mark (chars (drop at (now (src .entry))))) ⌝ }
 {
     let o = operators::scan_operator(src, at);
@@ -45,17 +45,17 @@ fn lex_operator(src: &[u8], at: usize, mark: bool) -> Lexed
     if kind == kinds::ILLEGAL {
         return lex_illegal(src, at, mark);
     }
-    bare(kind, at, at + o.len, sets_mark(kind))
+    bare(kind, at, at + o.len, kinds::sets_mark(kind))
 }
 
 // Does a number start with these two bytes? A point before a digit starts one.
 fn starts_number(first: u8, second: u8) -> bool
-    ensures { λ r. ⌜ r ≡ isDecimal first || (eqb first 46 && isDecimal second) ⌝ }
+    ensures { λ r. ⌜ r ≡ isDecimal first || (eqb first (code ".") && isDecimal second) ⌝ }
 {
     if digits::is_decimal(first) {
         return true;
     }
-    if first == 46 {
+    if first == b'.' {
         return digits::is_decimal(second);
     }
     false
@@ -63,38 +63,38 @@ fn starts_number(first: u8, second: u8) -> bool
 
 // Does a comment start with these two bytes?
 fn starts_comment(first: u8, second: u8) -> bool
-    ensures { λ r. ⌜ r ≡ eqb first 47 && (eqb second 47 || eqb second 42) ⌝ }
+    ensures { λ r. ⌜ r ≡ eqb first (code "/") && (eqb second (code "/") || eqb second (code "*")) ⌝ }
 {
-    if first != 47 {
+    if first != b'/' {
         return false;
     }
-    if second == 47 {
+    if second == b'/' {
         return true;
     }
-    second == 42
+    second == b'*'
 }
 
 // Are there two points at a place, and no third?
 fn is_two_points(src: &[u8], at: usize) -> bool
     requires { ⌜ at < length (now src) ⌝ }
-    ensures { λ r. ⌜ r ≡ eqb (getD (now (src .entry)) at 0) 46 && (eqb (getD (now (src .entry)) (at + 1) 0) 46 && not (eqb (getD (now (src .entry)) (at + 2) 0) 46)) ⌝ }
+    ensures { λ r. ⌜ r ≡ eqb (getD (now (src .entry)) at 0) (code ".") && (eqb (getD (now (src .entry)) (at + 1) 0) (code ".") && not (eqb (getD (now (src .entry)) (at + 2) 0) (code "."))) ⌝ }
 {
-    if utf8::byte(src, at) != 46 {
+    if utf8::byte(src, at) != b'.' {
         return false;
     }
-    if utf8::byte(src, at + 1) != 46 {
+    if utf8::byte(src, at + 1) != b'.' {
         return false;
     }
-    utf8::byte(src, at + 2) != 46
+    utf8::byte(src, at + 2) != b'.'
 }
 
 // A token that is no word, number or literal: a comment, two points, or an operator.
 fn lex_other(src: &[u8], at: usize, second: u8, mark: bool) -> Lexed
-    requires { ⌜ (at < length (now src)) × (eqb (getD (now src) at 0) 10 ≡ false) × (getD (now src) (at + 1) 0 ≡ second)
-        × (eqb (getD (now src) at 0) 46 && isDecimal second ≡ false) ⌝ }
+    requires { ⌜ StartsOther (now src) at × (getD (now src) (at + 1) 0 ≡ second)
+        × (eqb (getD (now src) at 0) (code ".") && isDecimal second ≡ false) ⌝ }
     ensures { λ r. ⌜ said (now (src .entry)) at r ≡ placed (now (src .entry)) at
-        (cond (eqb (getD (now (src .entry)) at 0) 46) (lexDot mark (chars (drop at (now (src .entry)))))
-        (cond (eqb (getD (now (src .entry)) at 0) 47) (lexSlash mark (chars (drop at (now (src .entry))))) (lexOperator mark (chars (drop at (now (src .entry))))))) ⌝ }
+        (cond (eqb (getD (now (src .entry)) at 0) (code ".")) (lexDot mark (chars (drop at (now (src .entry)))))
+        (cond (eqb (getD (now (src .entry)) at 0) (code "/")) (lexSlash mark (chars (drop at (now (src .entry))))) (lexOperator mark (chars (drop at (now (src .entry))))))) ⌝ }
 {
     if starts_comment(src[at], second) {
         return lex_comment(src, at, second, mark);
@@ -103,6 +103,26 @@ fn lex_other(src: &[u8], at: usize, second: u8, mark: bool) -> Lexed
         return shown(kinds::ILLEGAL, at, at + 2, mark);
     }
     lex_operator(src, at, mark)
+}
+
+// The token at a place by the first two bytes there.
+fn lex_by(src: &[u8], at: usize, first: u8, second: u8, mark: bool) -> Lexed
+    requires { ⌜ (at < length (now src)) × (getD (now src) at 0 ≡ first) × (getD (now src) (at + 1) 0 ≡ second) ⌝ }
+    ensures { λ r. ⌜ said (now (src .entry)) at r ≡ placed (now (src .entry)) at (lexToken mark (chars (drop at (now (src .entry))))) ⌝ }
+{
+    if words::is_letter(first) {
+        return lex_word(src, at);
+    }
+    if starts_number(first, second) {
+        return lex_number(src, at);
+    }
+    match first {
+        b'\n' => inserted_semicolon(at),
+        b'"' => lex_string(src, at),
+        b'\'' => lex_char(src, at),
+        b'`' => lex_raw(src, at),
+        _ => lex_other(src, at, second, mark),
+    }
 }
 
 // The token at a place after the blanks.
@@ -117,17 +137,5 @@ pub fn lex_token(src: &[u8], at: usize, mark: bool) -> Lexed
     }
     let first = src[at];
     let second = utf8::byte(src, at + 1);
-    if words::is_letter(first) {
-        return lex_word(src, at);
-    }
-    if starts_number(first, second) {
-        return lex_number(src, at);
-    }
-    match first {
-        10 => inserted_semicolon(at),
-        34 => lex_string(src, at),
-        39 => lex_char(src, at),
-        96 => lex_raw(src, at),
-        _ => lex_other(src, at, second, mark),
-    }
+    lex_by(src, at, first, second, mark)
 }

@@ -3,7 +3,6 @@ ghost use mathlib.Core.Path.{_≡_};
 ghost use Prim.Native.Nat.{_≤_};
 ghost use Rattle.lexer.specs.declared.lexed.Text.the-variants.{Empty};
 ghost use Rattle.lexer.specs.declared.lexed.Value.the-variants.{Empty as NoValue};
-ghost use Rattle.lexer.specs.Lexeme.{setsMark};
 ghost use Rattle.lexer.specs.Made.{madeAt, shownAt, insertedAt};
 
 // How the text of a token is made of the characters read.
@@ -100,23 +99,4 @@ pub(crate) fn inserted_semicolon(at: usize) -> Lexed
     let mut x = bare(kinds::SEMICOLON, at, at, false);
     x.inserted = true;
     x
-}
-
-// Is the mark set after an operator or a keyword?
-pub(crate) fn sets_mark(kind: u8) -> bool
-    ensures { λ r. ⌜ r ≡ setsMark kind ⌝ }
-{
-    match kind {
-        kinds::IDENT
-        | kinds::INC
-        | kinds::DEC
-        | kinds::RPAREN
-        | kinds::RBRACK
-        | kinds::RBRACE
-        | kinds::BREAK
-        | kinds::CONTINUE
-        | kinds::FALLTHROUGH
-        | kinds::RETURN => true,
-        _ => false,
-    }
 }

@@ -4,10 +4,12 @@ use crate::lexed::Text;
 use crate::lexed::Value;
 use crate::lexed::made;
 ghost use mathlib.Core.Path.{_≡_};
+ghost use mathlib.Core.Bool.{true};
 ghost use Prim.Native.Nat.{_≤_};
 ghost use lib.ListN.{length, drop};
 ghost use Rattle.utf8.specs.Chars.{chars};
 ghost use Rattle.lexer.specs.Words.{lexNumber};
+ghost use Rattle.lexer.specs.Making.{isNumber};
 ghost use Rattle.lexer.specs.Placed.{said, placed};
 ghost use Rattle.lexer.specs.Made.{gainedBy, respelledBy};
 
@@ -37,7 +39,7 @@ fn respelled(spelling: numbers::Spelling) -> bool
 
 // The number at a place that holds a digit, or a point before one.
 pub(crate) fn lex_number(src: &[u8], at: usize) -> Lexed
-    requires { ⌜ at ≤ length (now src) ⌝ }
+    requires { ⌜ (at ≤ length (now src)) × (isNumber (chars (drop at (now src))) ≡ true) ⌝ }
     ensures { λ r. ⌜ said (now (src .entry)) at r ≡ placed (now (src .entry)) at (lexNumber (chars (drop at (now (src .entry))))) ⌝ }
 {
     let n = numbers::scan_number(src, at);

@@ -9,7 +9,7 @@ ghost use lib.ListN.{drop, getD};
 ghost use Rattle.utf8.specs.Chars.{chars};
 ghost use Rattle.lexer.specs.Quotes.{lexString, lexChar};
 ghost use Rattle.lexer.specs.Placed.{said, placed};
-ghost use Rattle.lexer.specs.Made.{quotedAs};
+ghost use Rattle.lexer.specs.Made.{code, quotedAs};
 
 // A literal at a place by its body; its text is what was read, and its value is not counted yet.
 fn literal(q: quotes::Quoted, at: usize, kind: u8, value: Value) -> Lexed
@@ -28,7 +28,7 @@ fn literal(q: quotes::Quoted, at: usize, kind: u8, value: Value) -> Lexed
 
 // The string at a place that holds a double quote.
 pub(crate) fn lex_string(src: &[u8], at: usize) -> Lexed
-    requires { ⌜ getD (now src) at 0 ≡ 34 ⌝ }
+    requires { ⌜ getD (now src) at 0 ≡ code "\"" ⌝ }
     ensures { λ r. ⌜ said (now (src .entry)) at r ≡ placed (now (src .entry)) at (lexString (chars (drop at (now (src .entry))))) ⌝ }
 {
     let q = quotes::string_body(src, at + 1);
@@ -43,7 +43,7 @@ pub(crate) fn lex_string(src: &[u8], at: usize) -> Lexed
 
 // The character literal at a place that holds a single quote.
 pub(crate) fn lex_char(src: &[u8], at: usize) -> Lexed
-    requires { ⌜ getD (now src) at 0 ≡ 39 ⌝ }
+    requires { ⌜ getD (now src) at 0 ≡ code "'" ⌝ }
     ensures { λ r. ⌜ said (now (src .entry)) at r ≡ placed (now (src .entry)) at (lexChar (chars (drop at (now (src .entry))))) ⌝ }
 {
     let q = quotes::char_body(src, at + 1);
@@ -52,7 +52,7 @@ pub(crate) fn lex_char(src: &[u8], at: usize) -> Lexed
     }
     if q.count != 1 {
         let mut x = literal(q, at, kinds::ILLEGAL, Value::Empty);
-        x.error = 13;
+        x.error = errors::NOT_ONE_CHARACTER;
         return x;
     }
     let mut x = literal(q, at, kinds::CHAR, Value::Empty);

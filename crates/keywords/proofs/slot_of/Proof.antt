@@ -1,7 +1,6 @@
--- The definition, word for word.
-use mathlib.Core.Path.{refl}
+-- The definition, with the length reduced before the sum.
 use borrow.Author.Needs.{needs}
-use Rattle.keywords.specs.Search.{slotOf}
+use Rattle.keywords.proofs.Slots.{slot-reduced}
 use Rattle.keywords.proofs.slot_of.Statement.{statement}
 use Rattle.keywords.proofs.slot_of.Tie as tie
 
@@ -18,8 +17,7 @@ add-result-2 : tie.Need-add-result-2
 add-result-2 c = search needs
 
 returns : tie.Need-returns
-unfolding slotOf
-returns c = refl
+returns c = slot-reduced _ _
 
 pub slot-of-spec : {M : Type 1} → statement M
 slot-of-spec = tie.close (tie.spec mul-result add-result mul-result-2 add-result-2 returns)

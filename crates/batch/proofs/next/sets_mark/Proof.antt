@@ -8,7 +8,7 @@ use lib.Bits.{bitAnd}
 use borrow.Author.Needs.{needs}
 use Rattle.basics.proofs.Choice.{same-test}
 use Rattle.kinds.proofs.Ranges.{every-within}
-use Rattle.lexer.specs.Lexeme.{setsMark}
+use Rattle.kinds.specs.Table.{setsMark}
 use Rattle.batch.proofs.next.sets_mark.Statement.{statement}
 use Rattle.batch.proofs.next.sets_mark.Tie as tie
 

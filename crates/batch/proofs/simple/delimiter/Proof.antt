@@ -12,7 +12,7 @@ use borrow.Author.Needs.{needs}
 use Rattle.kinds.specs.Kinds.{ILLEGAL, IDENT, INT, STRING, ADD, LPAREN, PERIOD}
 use Rattle.words.specs.Word.{isLetter}
 use Rattle.lexer.specs.declared.lexed.Text.the-variants.{Empty}
-use Rattle.lexer.specs.Lexeme.{setsMark}
+use Rattle.kinds.specs.Table.{setsMark}
 use Rattle.batch.specs.Simple.{firstKind}
 use Rattle.batch.proofs.SimpleTokens.{letter-first, first-small, first-known, delimiter-read}
 use Rattle.batch.proofs.Giving.{gives-none, gives-plain}

@@ -11,7 +11,7 @@ use Rattle.utf8.specs.Chars.{chars}
 use Rattle.kinds.specs.Kinds.{EOF, STRING}
 use Rattle.operators.proofs.Bounds.{operator-short}
 use Rattle.lexer.specs.declared.lexed.Text.the-variants.{Empty}
-use Rattle.lexer.specs.Lexeme.{setsMark}
+use Rattle.kinds.specs.Table.{setsMark}
 use Rattle.batch.proofs.SimpleTokens.{operator-kind, operator-within, operator-reads}
 use Rattle.batch.proofs.Giving.{gives-plain}
 use Rattle.batch.proofs.simple.operator.Statement.{statement}

@@ -24,15 +24,15 @@ is-stray-requires c κs = search needs
 
 returns : tie.Need-returns
 returns c =
-    let a = c .before .before .before .before .before .before .args in
+    let a = c .before .before .before .before .before .before in
     rw (c .before .before .shown .ensures)
-    (illegal-said (a .src .now) (a .at) (search needs) (a .mark) (search needs) (c .before .before .before .before .char-from .result) true (c .before .before .before .before .char-from .ensures) (sym (c .before .is-stray .ensures) ∙ c .if1 .taken))
+    (illegal-said (a .args .src .now) (a .args .at) (a .pre .0) (a .args .mark) (a .pre .1) (a .pre .2) (a .pre .3) _ true (c .before .before .before .before .char-from .ensures) (sym (c .before .is-stray .ensures) ∙ c .if1 .taken))
 
 returns-2 : tie.Need-returns-2
 returns-2 c =
-    let a = c .before .before .before .before .before .before .args in
+    let a = c .before .before .before .before .before .before in
     rw (c .before .before .shown .ensures)
-    (illegal-said (a .src .now) (a .at) (search needs) (a .mark) (search needs) (c .before .before .before .before .char-from .result) false (c .before .before .before .before .char-from .ensures) (sym (c .before .is-stray .ensures) ∙ c .if1 .left))
+    (illegal-said (a .args .src .now) (a .args .at) (a .pre .0) (a .args .mark) (a .pre .1) (a .pre .2) (a .pre .3) _ false (c .before .before .before .before .char-from .ensures) (sym (c .before .is-stray .ensures) ∙ c .if1 .left))
 
 pub lex-illegal-spec : {M : Type 1} → statement M
 lex-illegal-spec =

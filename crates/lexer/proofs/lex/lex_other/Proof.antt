@@ -42,8 +42,9 @@ returns-2 : tie.Need-returns-2
 returns-2 c =
     let a = c .before .before .before .before .before .before .before .args in
     let t = sym (c .before .before .is-two-points .ensures) ∙ c .before .if2 .taken in
+    let p = points-ascii (a .src .now) (a .at) _ t in
     ap (said (a .src .now) (a .at)) (c .shown .ensures)
-    ∙ shown-said (a .src .now) (a .at) (a .at + 2) 2 ILLEGAL (a .mark) (points-ascii (a .src .now) (a .at) _ t) refl (λ e. omega arith)
+    ∙ shown-said (a .src .now) (a .at) (a .at + 2) 2 ILLEGAL (a .mark) (p .0) refl (λ e. omega arith) (omega arith) refl (p .1) (p .2)
     ∙ ap (placed (a .src .now) (a .at)) (points-is (a .mark) (a .src .now) (a .at) (search needs) (a .second) (search needs) (search needs) t)
 
 lex-operator-requires : tie.Need-lex-operator-requires

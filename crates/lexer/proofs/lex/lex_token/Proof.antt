@@ -3,18 +3,15 @@ use mathlib.Core.Path.{sym, ap, _∙_}
 use mathlib.Core.Bool.{false}
 use native.Mathlib.Omega.{arith}
 use native.Mathlib.Nat.{add-zero}
-use lib.ListN.{getD, drop}
-use borrow.Author.Tests.{ne-eqb}
+use lib.ListN.{drop}
 use borrow.Author.Needs.{needs}
-use Rattle.basics.proofs.Choice.{none-of}
 use Rattle.utf8.specs.Chars.{chars}
 use Rattle.kinds.specs.Kinds.{EOF}
-use Rattle.digits.specs.Digit.{isDecimal}
 use Rattle.lexer.specs.Placed.{said, placed}
 use Rattle.lexer.proofs.Said.{semicolon-said}
 use Rattle.lexer.proofs.Ascii.{ascii-none}
 use Rattle.lexer.proofs.Tokens.{bare-said}
-use Rattle.lexer.proofs.Dispatch.{end-marked, end-unmarked, word-is, number-is, feed-is, string-is, char-is, raw-is, other-is}
+use Rattle.lexer.proofs.Dispatch.{end-marked, end-unmarked}
 use Rattle.lexer.proofs.lex.lex_token.Statement.{statement}
 use Rattle.lexer.proofs.lex.lex_token.Tie as tie
 
@@ -46,86 +43,11 @@ add-byte c = search needs
 byte-requires : tie.Need-byte-requires
 byte-requires c κs = search needs
 
-is-letter-requires : tie.Need-is-letter-requires
-is-letter-requires c κs = search needs
-
-lex-word-requires : tie.Need-lex-word-requires
-lex-word-requires c κs = search needs
+lex-by-requires : tie.Need-lex-by-requires
+lex-by-requires c κs = search needs
 
 returns-3 : tie.Need-returns-3
-returns-3 c =
-    let a = c .before .before .before .before .before .before .before .args in
-    let h = c .before .before .before .before .before .if1 .left in
-    c .lex-word .ensures ∙ ap (placed (a .src .now) (a .at)) (word-is (a .mark) (a .src .now) (a .at) h (sym (c .before .before .is-letter .ensures) ∙ c .before .if3 .taken))
-
-starts-number-requires : tie.Need-starts-number-requires
-starts-number-requires c κs = search needs
-
-lex-number-requires : tie.Need-lex-number-requires
-lex-number-requires c κs = search needs
-
-returns-4 : tie.Need-returns-4
-returns-4 c =
-    let a = c .before .before .before .before .before .before .before .before .before .args in
-    let h = c .before .before .before .before .before .before .before .if1 .left in
-    c .lex-number .ensures
-    ∙ ap (placed (a .src .now) (a .at)) (number-is (a .mark) (a .src .now) (a .at) h (c .before .before .before .before .before .byte .result) (sym (c .before .before .before .before .before .byte .ensures))
-    (sym (c .before .before .before .before .is-letter .ensures) ∙ c .before .before .before .if3 .left) (sym (c .before .before .starts-number .ensures) ∙ c .before .if4 .taken))
-
-inserted-semicolon-requires-2 : tie.Need-inserted-semicolon-requires-2
-inserted-semicolon-requires-2 c κs = search needs
-
-lex-string-requires : tie.Need-lex-string-requires
-lex-string-requires c κs = search needs
-
-lex-char-requires : tie.Need-lex-char-requires
-lex-char-requires c κs = search needs
-
-lex-raw-requires : tie.Need-lex-raw-requires
-lex-raw-requires c κs = search needs
-
-lex-other-requires : tie.Need-lex-other-requires
-lex-other-requires c κs =
-    let a = c .before .before .before .before .before .before .before .before .before .args in
-    let first = getD (a .src .now) (a .at) 0 in
-    let n = none-of (isDecimal first) _ (sym (c .before .before .starts-number .ensures) ∙ c .before .if4 .left) in
-    (c .before .before .before .before .before .before .before .if1 .left, ne-eqb first 10 (c .match .rest .0 .0 .0 .1), sym (c .before .before .before .before .before .byte .ensures), n .1)
-
-returns-5 : tie.Need-returns-5
-returns-5 c =
-    let a = c .before .before .before .before .before .before .before .before .before .before .args in
-    let h = c .before .before .before .before .before .before .before .before .if1 .left in
-    ap (said (a .src .now) (a .at)) (c .inserted-semicolon2 .ensures) ∙ semicolon-said (a .src .now) (a .at)
-    ∙ ap (placed (a .src .now) (a .at)) (feed-is (a .mark) (a .src .now) (a .at) h (c .before .match .keys1))
-
-returns-6 : tie.Need-returns-6
-returns-6 c =
-    let a = c .before .before .before .before .before .before .before .before .before .before .args in
-    let h = c .before .before .before .before .before .before .before .before .if1 .left in
-    c .lex-string .ensures ∙ ap (placed (a .src .now) (a .at)) (string-is (a .mark) (a .src .now) (a .at) h (c .before .match .keys2))
-
-returns-7 : tie.Need-returns-7
-returns-7 c =
-    let a = c .before .before .before .before .before .before .before .before .before .before .args in
-    let h = c .before .before .before .before .before .before .before .before .if1 .left in
-    c .lex-char .ensures ∙ ap (placed (a .src .now) (a .at)) (char-is (a .mark) (a .src .now) (a .at) h (c .before .match .keys3))
-
-returns-8 : tie.Need-returns-8
-returns-8 c =
-    let a = c .before .before .before .before .before .before .before .before .before .before .args in
-    let h = c .before .before .before .before .before .before .before .before .if1 .left in
-    c .lex-raw .ensures ∙ ap (placed (a .src .now) (a .at)) (raw-is (a .mark) (a .src .now) (a .at) h (c .before .match .keys4))
-
-returns-9 : tie.Need-returns-9
-returns-9 c =
-    let a = c .before .before .before .before .before .before .before .before .before .before .args in
-    let h = c .before .before .before .before .before .before .before .before .if1 .left in
-    let first = getD (a .src .now) (a .at) 0 in
-    let n = none-of (isDecimal first) _ (sym (c .before .before .before .starts-number .ensures) ∙ c .before .before .if4 .left) in
-    let r = c .before .match .rest in
-    c .lex-other .ensures
-    ∙ ap (placed (a .src .now) (a .at)) (other-is (a .mark) (a .src .now) (a .at) h (sym (c .before .before .before .before .before .is-letter .ensures) ∙ c .before .before .before .before .if3 .left) (n .0)
-    (r .0 .0 .0 .1) (r .0 .0 .1) (r .0 .1) (r .1))
+returns-3 c = search needs
 
 pub lex-token-spec : {M : Type 1} → statement M
 lex-token-spec =
@@ -138,19 +60,5 @@ lex-token-spec =
     shared-slice-read-first
     add-byte
     byte-requires
-    is-letter-requires
-    lex-word-requires
-    returns-3
-    starts-number-requires
-    lex-number-requires
-    returns-4
-    inserted-semicolon-requires-2
-    lex-string-requires
-    lex-char-requires
-    lex-raw-requires
-    lex-other-requires
-    returns-5
-    returns-6
-    returns-7
-    returns-8
-    returns-9)
+    lex-by-requires
+    returns-3)

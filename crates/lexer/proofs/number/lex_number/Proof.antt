@@ -24,7 +24,7 @@ add-x c =
     let start = c .before .before .before .before in
     let a = start .args in
     let e = ap (λ x. x .end) (n .ensures) in
-    omega (arith, e, number-end (a .src .now) (a .at) (start .pre), c .gained .ensures, gained-most (n .result .spelling))
+    omega (arith, e, number-end (a .src .now) (a .at) (start .pre .0), c .gained .ensures, gained-most (n .result .spelling))
 
 respelled-requires : tie.Need-respelled-requires
 respelled-requires c κs = search needs
@@ -32,8 +32,8 @@ respelled-requires c κs = search needs
 returns : tie.Need-returns
 returns c =
     let n = c .before .before .before .scan-number in
-    let a = c .before .before .before .before .before .args in
-    rw (c .before .before .made .ensures, c .before .gained .ensures, c .respelled .ensures, n .ensures) (numeral-said (a .src .now) (a .at))
+    let a = c .before .before .before .before .before in
+    rw (c .before .before .made .ensures, c .before .gained .ensures, c .respelled .ensures, n .ensures) (numeral-said (a .args .src .now) (a .args .at) (a .pre .1))
 
 pub lex-number-spec : {M : Type 1} → statement M
 lex-number-spec =

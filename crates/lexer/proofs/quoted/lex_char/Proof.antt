@@ -1,5 +1,7 @@
 -- `lexer::quoted::lex_char` meets its contract: by whether the body is closed, and has one character.
 use Prim.Native.Nat.{suc, _^_, _≤_, _<_}
+use mathlib.Core.Path.{refl}
+use mathlib.Core.Logic.{inr}
 use native.Mathlib.Omega.{arith}
 use borrow.Author.Needs.{needs}
 use borrow.Author.Tests.{not-true, not-false}
@@ -19,7 +21,7 @@ char-body-requires c κs = search needs
 room : (c : tie.After-char-body) → (c .before .before .args .at ≤ c .char-body .result .end) × (suc (c .char-body .result .chars) < 2 ^ 64)
 room c =
     let a = c .before .before in
-    literal-room 39 (omega arith) (omega arith) (λ z. omega arith) (a .args .src .now) (a .args .at) (a .pre) (c .char-body .result) (c .char-body .ensures)
+    literal-room 39 (inr refl) (a .args .src .now) (a .args .at) (a .pre) (c .char-body .result) (c .char-body .ensures)
     (omega (arith, a .good .0 .1))
 
 literal-requires : tie.Need-literal-requires

@@ -1,5 +1,7 @@
 -- `lexer::quoted::lex_string` meets its contract: by whether the body is closed.
 use Prim.Native.Nat.{suc, _^_, _≤_, _<_}
+use mathlib.Core.Path.{refl}
+use mathlib.Core.Logic.{inl}
 use native.Mathlib.Omega.{arith}
 use borrow.Author.Needs.{needs}
 use borrow.Author.Tests.{not-true, not-false}
@@ -19,7 +21,7 @@ string-body-requires c κs = search needs
 room : (c : tie.After-string-body) → (c .before .before .args .at ≤ c .string-body .result .end) × (suc (c .string-body .result .chars) < 2 ^ 64)
 room c =
     let a = c .before .before in
-    literal-room 34 (omega arith) (omega arith) (λ z. omega arith) (a .args .src .now) (a .args .at) (a .pre) (c .string-body .result) (c .string-body .ensures)
+    literal-room 34 (inl refl) (a .args .src .now) (a .args .at) (a .pre) (c .string-body .result) (c .string-body .ensures)
     (omega (arith, a .good .0 .1))
 
 literal-requires : tie.Need-literal-requires

@@ -29,9 +29,9 @@ shown-requires c κs = search needs
 
 returns : tie.Need-returns
 returns c =
-    let a = c .before .before .before .before .before .before .args in
-    ap (said (a .src .now) (a .at)) (c .shown .ensures)
-    ∙ identifier-said (a .src .now) (a .at) _ _ (c .before .before .before .before .word-end .ensures) (c .before .before .ident-token .ensures) (c .before .if1 .taken)
+    let a = c .before .before .before .before .before .before in
+    ap (said (a .args .src .now) (a .args .at)) (c .shown .ensures)
+    ∙ identifier-said (a .args .src .now) (a .args .at) _ _ (c .before .before .before .before .word-end .ensures) (c .before .before .ident-token .ensures) (a .pre .1) (c .before .if1 .taken)
 
 sets-mark-requires : tie.Need-sets-mark-requires
 sets-mark-requires c κs = search needs

@@ -7,11 +7,11 @@ use native.Mathlib.Omega.{arith}
 use borrow.Author.Needs.{needs}
 use borrow.Author.Tests.{ne-eqb}
 use Rattle.basics.proofs.Choice.{true-of}
 use Rattle.kinds.specs.Kinds.{IDENT, INC, DEC, RPAREN, RBRACK, RBRACE, BREAK, CONTINUE, FALLTHROUGH, RETURN}
 use Rattle.kinds.proofs.Ranges.{every-within}
-use Rattle.lexer.specs.Lexeme.{setsMark}
-use Rattle.lexer.proofs.lexed.sets_mark.Statement.{statement}
-use Rattle.lexer.proofs.lexed.sets_mark.Tie as tie
+use Rattle.kinds.specs.Table.{setsMark}
+use Rattle.kinds.proofs.class.sets_mark.Statement.{statement}
+use Rattle.kinds.proofs.class.sets_mark.Tie as tie
 
 -- the kinds that stand alone, as the `match` has them
 abbrev Alone : ℕ → Type 0
