@@ -13,18 +13,18 @@ use Rattle.utf8.specs.Chars.{charAt, chars}
 use Rattle.utf8.proofs.First.{charAt-in, there-chars, chars-end}
 use Rattle.digits.specs.Digit.{digitVal}
 use Rattle.digits.proofs.Digits.{digit-there}
-use Rattle.quotes.specs.declared.Given.the-variants.{Bad}
-use Rattle.quotes.specs.Escape.{lookup, letter, following, single, octalEscape, hexEscape, escapeOf}
+use Rattle.quotes.specs.Answers.{noCharacter}
+use Rattle.quotes.specs.Escape.{entryFor, letter, digitCounts, following, single, octalEscape, hexEscape, escapeOf}
 
 -- what holds of 0, and of what a table gives to a character that it has, holds of what it gives to any; f is a test that the rows pass
-pub lookup-ind : (f : (ℕ × ℕ) → Bool) (P : ℕ → Type 0) (c : ℕ) → P 0 → ((row : ℕ × ℕ) → T (f row) → c ≡ row .0 → P (row .1)) → (rows : List (ℕ × ℕ)) → T (each f rows) → P (lookup c rows)
-lookup-ind f P c base one = each-ind f (λ rows. P (lookup c rows)) base (λ row rows t rest. cond-ind P (eqb c (row .0)) _ _ (λ e. one row t (eqb-true c (row .0) e)) (λ _. rest))
+pub entry-ind : (f : (ℕ × ℕ) → Bool) (P : ℕ → Type 0) (c : ℕ) → P 0 → ((row : ℕ × ℕ) → T (f row) → c ≡ row .0 → P (row .1)) → (rows : List (ℕ × ℕ)) → T (each f rows) → P (entryFor c rows)
+entry-ind f P c base one = each-ind f (λ rows. P (entryFor c rows)) base (λ row rows t rest. cond-ind P (eqb c (row .0)) _ _ (λ e. one row t (eqb-true c (row .0) e)) (λ _. rest))
 
 pub following-most : (c : ℕ) → following c ≤ 8
 unfolding following
-following-most c = lookup-ind (λ row. leb (row .1) 8) (λ n. n ≤ 8) c (lit≤ tt) (λ row most _. leb→le (row .1) 8 most) ((120, 2) ∷ (117, 4) ∷ (85, 8) ∷ []) tt
+following-most c = entry-ind (λ row. leb (row .1) 8) (λ n. n ≤ 8) c (lit≤ tt) (λ row most _. leb→le (row .1) 8 most) digitCounts tt
 
-pub escape-end : (quote : ℕ) (s : List ℕ) (p : ℕ) → length s ≤ p → escapeOf quote (chars (drop p s)) ≡ record { len = 0; given = Bad 10 }
+pub escape-end : (quote : ℕ) (s : List ℕ) (p : ℕ) → length s ≤ p → escapeOf quote (chars (drop p s)) ≡ record { len = 0; meaning = noCharacter 10 }
 unfolding escapeOf
 escape-end quote s p h = rw (chars-end s p h)
 

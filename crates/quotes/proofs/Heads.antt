@@ -17,10 +17,10 @@ use Rattle.utf8.specs.Chars.{ended, chars, widths}
 use Rattle.utf8.proofs.Places.{ascii-widths}
 use Rattle.digits.specs.Digit.{digitVal}
 use Rattle.quotes.specs.declared.numeral.Numeral.{Numeral}
-use Rattle.quotes.specs.declared.Escaped.{Escaped}
+use Rattle.quotes.specs.Answers.{Escape}
 use Rattle.quotes.specs.Numeral.{numeral}
-use Rattle.quotes.specs.Escape.{lookup, letters, letter, following, octalEscape, hexEscape, escapeOf}
-use Rattle.quotes.proofs.EscapeLaws.{lookup-ind}
+use Rattle.quotes.specs.Escape.{entryFor, letters, letter, digitCounts, following, octalEscape, hexEscape, escapeOf}
+use Rattle.quotes.proofs.EscapeLaws.{entry-ind}
 
 -- n characters stand at the head of a list, and P holds of the code of each
 abbrev pub Heads : (ℕ → Type 0) → ℕ → List Char → Type 0
@@ -65,18 +65,18 @@ digit-in : (c : ℕ) → digitVal c < 16 → (48 ≤ c) × (c ≤ 122)
 digit-in c d = within c (λ o. omega (arith, digit-out c o))
 
 -- a table of such characters gives nothing to others
-lookup-out : (rows : List (ℕ × ℕ)) → T (each (λ row. between 48 (row .0) 122) rows) → (c : ℕ) → Out c → lookup c rows ≡ 0
-lookup-out rows t c o =
-    lookup-ind (λ row. between 48 (row .0) 122) (λ n. n ≡ 0) c refl
+entry-out : (rows : List (ℕ × ℕ)) → T (each (λ row. between 48 (row .0) 122) rows) → (c : ℕ) → Out c → entryFor c rows ≡ 0
+entry-out rows t c o =
+    entry-ind (λ row. between 48 (row .0) 122) (λ n. n ≡ 0) c refl
     (λ row i e. let key = between-true 48 (row .0) 122 (true-of _ i) in absurd (apart c (row .0) (key .0) (key .1) o e)) rows t
 
 letter-out : (c : ℕ) → Out c → letter c ≡ 0
 unfolding letter
-letter-out = lookup-out letters tt
+letter-out = entry-out letters tt
 
 following-out : (c : ℕ) → Out c → following c ≡ 0
 unfolding following
-following-out = lookup-out ((120, 2) ∷ (117, 4) ∷ (85, 8) ∷ []) tt
+following-out = entry-out digitCounts tt
 
 -- ---- what holds of the quote and of all codes between 0 and z holds of what an escape reads
 module _ (P : ℕ → Type 0) (inside : (c : ℕ) → 48 ≤ c → c ≤ 122 → P c) where
@@ -92,7 +92,7 @@ module _ (P : ℕ → Type 0) (inside : (c : ℕ) → 48 ≤ c → c ≤ 122 →
   hex-heads : (c : Char) (r : List Char) → Heads P (hexEscape (c .code) r .len) (c ∷ r)
   unfolding hexEscape
   hex-heads c r =
-      cond-ind (λ (x : Escaped). Heads P (x .len) (c ∷ r)) (eqb (following (c .code)) 0) _ _ (λ _. tt)
+      cond-ind (λ (x : Escape). Heads P (x .len) (c ∷ r)) (eqb (following (c .code)) 0) _ _ (λ _. tt)
       (λ f. let g = within (c .code) (λ o. eqb-false _ _ f (following-out (c .code) o)) in (inside (c .code) (g .0) (g .1), numeral-heads 16 (following (c .code)) 0 r (omega arith)))
 
   module _ (quote : ℕ) (at-quote : P quote) where
@@ -100,10 +100,10 @@ module _ (P : ℕ → Type 0) (inside : (c : ℕ) → 48 ≤ c → c ≤ 122 →
     unfolding escapeOf octalEscape
     escape-heads [] = tt
     escape-heads (c ∷ r) =
-        cond-ind (λ (x : Escaped). Heads P (x .len) (c ∷ r)) (eqb (letter (c .code)) 0) _ _
-        (λ _. cond-ind (λ (x : Escaped). Heads P (x .len) (c ∷ r)) (eqb (c .code) quote) _ _
+        cond-ind (λ (x : Escape). Heads P (x .len) (c ∷ r)) (eqb (letter (c .code)) 0) _ _
+        (λ _. cond-ind (λ (x : Escape). Heads P (x .len) (c ∷ r)) (eqb (c .code) quote) _ _
         (λ q. (subst P (sym (eqb-true (c .code) quote q)) at-quote, tt))
-        (λ _. cond-ind (λ (x : Escaped). Heads P (x .len) (c ∷ r)) (ltb (digitVal (c .code)) 8) _ _
+        (λ _. cond-ind (λ (x : Escape). Heads P (x .len) (c ∷ r)) (ltb (digitVal (c .code)) 8) _ _
         (λ _. numeral-heads 8 3 0 (c ∷ r) (omega arith)) (λ _. hex-heads c r)))
         (λ l. let g = within (c .code) (λ o. eqb-false _ _ l (letter-out (c .code) o)) in (inside (c .code) (g .0) (g .1), tt))
 

@@ -16,10 +16,9 @@ use Rattle.utf8.specs.Chars.{octets, encode, firstChar, charAt, chars, isStray,
 use Rattle.utf8.proofs.First.{ascii, charAt-in, charAt-ascii, chars-end, chars-ascii, chars-le, first-fits, there-chars}
 use Rattle.utf8.proofs.Append.{first-stray}
 use Rattle.utf8.proofs.Encoding.{first-coded}
-use Rattle.quotes.specs.declared.Given.the-variants.{Value, Bad}
-use Rattle.quotes.specs.declared.Escaped.{Escaped}
 use Rattle.quotes.specs.declared.Quoted.{Quoted}
-use Rattle.quotes.specs.Escape.{escapeOf, bytesOf}
+use Rattle.quotes.specs.Answers.{character, noCharacter, Escape, bytesOf}
+use Rattle.quotes.specs.Escape.{escapeOf}
 use Rattle.quotes.specs.Body.{Body, ends, plain, escape, bodyFrom, body, placed, quotedAt}
 use Rattle.quotes.specs.Steps.{nothing, added, stopped}
 use Rattle.quotes.proofs.Reading.{escape-rest, at-quote, at-lf, at-slash, at-plain}
@@ -73,10 +72,10 @@ module _ (q : Quoted) (p : ℕ) (c : Char) (r : List Char) (b : Body) (fit : 2 *
 
 module _ (q : Quoted) (p : ℕ) (c : Char) (r : List Char) (n : ℕ) (b : Body) (fit : 2 * b .strays ≤ length (b .value)) where
   pub joined-escape : c .width ≡ 1 → widths (take n r) ≡ n → (code : ℕ) (byte : Bool)
-      → joined q (placed p (c ∷ r) (escape (suc n) (Value code byte) b)) ≡ joined (added q (n + 1) code (length (bytesOf (Value code byte))) 0 true) (placed (p + (n + 1)) (drop n r) b)
+      → joined q (placed p (c ∷ r) (escape (suc n) (character code byte) b)) ≡ joined (added q (n + 1) code (length (bytesOf (character code byte))) 0 true) (placed (p + (n + 1)) (drop n r) b)
   unfolding added joined placed
   joined-escape w e code byte =
-      let v = bytesOf (Value code byte) in
+      let v = bytesOf (character code byte) in
       let e1 : p + widths (take (suc n + b .len) (c ∷ r)) ≡ p + (n + 1) + widths (take (b .len) (drop n r)) =
       rw (suc-add n (b .len)) (omega (arith, widths-split n (b .len) r)) in
       let e2 : q .chars + (suc n + b .len) ≡ q .chars + (n + 1) + b .len = omega arith in
@@ -84,7 +83,7 @@ module _ (q : Quoted) (p : ℕ) (c : Char) (r : List Char) (n : ℕ) (b : Body) 
       let e4 : cond (eqb (q .count) 0) code (q .code) ≡ cond (eqb (q .count + 1) 0) (b .code) (cond (eqb (q .count) 0) code (q .code)) =
       rw (ne-eqb (q .count + 1) 0 (λ z. omega arith)) in
       let e5 : q .strays + b .strays ≡ q .strays + 0 + b .strays = omega arith in
-      let e6 : q .bytes + (length (escape (suc n) (Value code byte) b .value) - 2 * b .strays) ≡ q .bytes + length v + (length (b .value) - 2 * b .strays) =
+      let e6 : q .bytes + (length (escape (suc n) (character code byte) b .value) - 2 * b .strays) ≡ q .bytes + length v + (length (b .value) - 2 * b .strays) =
       omega (arith, length-append v (b .value)) in
       let e7 : q .escaped || true ≡ true = or-true (q .escaped) in
       λ i. record { end = e1 i; chars = e2 i; closed = b .closed; error = b .error; count = e3 i; code = e4 i; escaped = e7 i; strays = e5 i; bytes = e6 i }
@@ -101,7 +100,7 @@ stray-there s p h =
     (either (isStray f))
 
 -- an escape ends within the text
-pub escape-fits : (quote : ℕ) (s : List ℕ) (p : ℕ) (x : Escaped) → p < length s → x ≡ escapeOf quote (chars (drop (p + 1) s)) → p + (x .len + 1) ≤ length s
+pub escape-fits : (quote : ℕ) (s : List ℕ) (p : ℕ) (x : Escape) → p < length s → x ≡ escapeOf quote (chars (drop (p + 1) s)) → p + (x .len + 1) ≤ length s
 escape-fits quote s p x h e =
     let r = drop (p + 1) s in
     rw e (omega (arith, escape-bound quote (chars r), chars-le r, length-drop (p + 1) s))
@@ -121,20 +120,20 @@ module _ (quote : ℕ) (low : quote < 0x80) (s : List ℕ) (p : ℕ) (q : Quoted
       step-lf f e = rw (at-lf quote low s p h no-quote e) (joined-ends q p 0 p false 8 _ f (add-zero p))
 
       -- after a backslash
-      module _ (slash : getD s p 0 ≡ 92) (x : Escaped) (is : x ≡ escapeOf quote (chars (drop (p + 1) s))) where
+      module _ (slash : getD s p 0 ≡ 92) (x : Escape) (is : x ≡ escapeOf quote (chars (drop (p + 1) s))) where
         first-is : chars (drop p s) ≡ ascii (getD s p 0) ∷ chars (drop (p + 1) s)
         first-is = chars-ascii s p h (omega arith)
 
         widths-are : widths (take (x .len) (chars (drop (p + 1) s))) ≡ x .len
         widths-are = rw is (escape-widths quote s (p + 1) low)
 
-        pub step-bad : (error : ℕ) → Fresh q → x .given ≡ Bad error → stopped q (p + (x .len + 1)) (x .len + 1) false error ≡ joined q (quotedAt quote s p)
+        pub step-bad : (error : ℕ) → Fresh q → x .meaning ≡ noCharacter error → stopped q (p + (x .len + 1)) (x .len + 1) false error ≡ joined q (quotedAt quote s p)
         step-bad error f g =
             rw (at-slash quote low s p h no-quote slash x is, g, first-is, add-one (x .len))
             (joined-ends q p (suc (x .len)) (p + suc (x .len)) false error (ascii (getD s p 0) ∷ chars (drop (p + 1) s)) f (omega (arith, widths-are)))
 
-        pub step-escape : (code : ℕ) (byte : Bool) → x .given ≡ Value code byte
-            → joined q (quotedAt quote s p) ≡ joined (added q (x .len + 1) code (length (bytesOf (Value code byte))) 0 true) (quotedAt quote s (p + (x .len + 1)))
+        pub step-escape : (code : ℕ) (byte : Bool) → x .meaning ≡ character code byte
+            → joined q (quotedAt quote s p) ≡ joined (added q (x .len + 1) code (length (bytesOf (character code byte))) 0 true) (quotedAt quote s (p + (x .len + 1)))
         step-escape code byte g =
             rw (at-slash quote low s p h no-quote slash x is, g, first-is, ← escape-rest quote low s p x is)
             (joined-escape q p (ascii (getD s p 0)) (chars (drop (p + 1) s)) (x .len) _ (strays-fit quote _ 0) refl widths-are code byte)

@@ -1,3 +1,4 @@
+pub mod Answers
 pub mod Numeral
 pub mod Escape
 pub mod Body

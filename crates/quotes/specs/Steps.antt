@@ -3,9 +3,8 @@ use Prim.Native.Nat.{ℕ, suc, _+_}
 use mathlib.Core.Bool.{Bool, false, cond, _||_}
 use mathlib.Core.List.{List, [], _∷_}
 use lib.Dec.{eqb, ltb}
-use Rattle.quotes.specs.declared.Given.{Given}
-use Rattle.quotes.specs.declared.Given.the-variants.{Value, Bad}
 use Rattle.quotes.specs.declared.Quoted.{Quoted}
+use Rattle.quotes.specs.Answers.{Meaning, character, noCharacter}
 
 -- before the first character
 abbrev pub nothing : ℕ → Quoted
@@ -69,7 +68,7 @@ stopped q end n closed error =
       bytes = q .bytes;
     }
 
--- the error of an escape; 0 where it gives something
-abbrev pub errorOf : Given → ℕ
-errorOf (Value code byte) = 0
-errorOf (Bad error) = error
+-- the error of an escape; 0 where it gives a character
+abbrev pub errorOf : Meaning → ℕ
+errorOf (character code byte) = 0
+errorOf (noCharacter error) = error

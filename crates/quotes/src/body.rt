@@ -8,8 +8,7 @@ ghost use Prim.Native.Nat.{_+_, _<_, _≤_, _^_, min};
 ghost use lib.ListN.{length, drop};
 ghost use Rattle.swar.specs.Lanes.{lanes};
 ghost use Rattle.utf8.specs.Chars.{isStray};
-ghost use Rattle.quotes.specs.Escape.{bytesOf};
-ghost use Rattle.quotes.specs.declared.Given.the-variants.{Value};
+ghost use Rattle.quotes.specs.Answers.{character, meaningOf, bytesOf};
 ghost use Rattle.quotes.specs.Body.{quotedAt};
 ghost use Rattle.quotes.specs.Steps.{isPlain, plainLen, stopMark, nothing, added, addedPlain, stopped, errorOf};
 
@@ -88,7 +87,7 @@ fn stop(q: Quoted, end: usize, n: usize, closed: bool, error: u8) -> Quoted
 
 // The error of an escape, 0 where it gives something.
 fn error_of(given: Given) -> u8
-    ensures { λ r. ⌜ r ≡ errorOf given ⌝ }
+    ensures { λ r. ⌜ r ≡ errorOf (meaningOf given) ⌝ }
 {
     match given {
         Given::Value { code: _, byte: _ } => 0,
@@ -98,7 +97,7 @@ fn error_of(given: Given) -> u8
 
 // How many bytes an escape gives to the value.
 fn given_len(code: u32, byte: bool) -> usize
-    ensures { λ r. ⌜ r ≡ length (bytesOf (Value code byte)) ⌝ }
+    ensures { λ r. ⌜ r ≡ length (bytesOf (character code byte)) ⌝ }
 {
     if byte { 1 } else { utf8::encoded_len(code) }
 }

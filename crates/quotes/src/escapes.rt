@@ -6,6 +6,7 @@ use crate::numeral::numeral_at;
 ghost use mathlib.Core.Path.{_≡_};
 ghost use lib.ListN.{drop};
 ghost use Rattle.utf8.specs.Chars.{chars};
+ghost use Rattle.quotes.specs.Answers.{meaningOf, says};
 ghost use Rattle.quotes.specs.Escape.{letter, following, byteOf, codeOf, octalEscape, hexEscape, escapeOf};
 
 // The code that a letter, or a backslash, gives after a backslash; 0 for any other character.
@@ -27,7 +28,7 @@ fn letter_code(c: u32) -> u32
 
 // What digits give that stand for a byte.
 fn byte_of(n: Numeral) -> Given
-    ensures { λ r. ⌜ r ≡ byteOf n ⌝ }
+    ensures { λ r. ⌜ meaningOf r ≡ byteOf n ⌝ }
 {
     let error = n.error;
     if error != 0 {
@@ -42,7 +43,7 @@ fn byte_of(n: Numeral) -> Given
 
 // What digits give that stand for a code.
 fn code_of(n: Numeral) -> Given
-    ensures { λ r. ⌜ r ≡ codeOf n ⌝ }
+    ensures { λ r. ⌜ meaningOf r ≡ codeOf n ⌝ }
 {
     let error = n.error;
     if error != 0 {
@@ -75,7 +76,7 @@ fn digits_after(c: u32) -> usize
 
 // The escape of hexadecimal digits, which stand at a place after its first character.
 fn hex_at(src: &[u8], at: usize, first: u32) -> Escaped
-    ensures { λ r. ⌜ r ≡ hexEscape first (chars (drop at (now (src .entry)))) ⌝ }
+    ensures { λ r. ⌜ says r ≡ hexEscape first (chars (drop at (now (src .entry)))) ⌝ }
 {
     let count = digits_after(first);
     if count == 0 {
@@ -100,7 +101,7 @@ fn hex_at(src: &[u8], at: usize, first: u32) -> Escaped
 
 // The escape of three octal digits at a place.
 fn octal_at(src: &[u8], at: usize) -> Escaped
-    ensures { λ r. ⌜ r ≡ octalEscape (chars (drop at (now (src .entry)))) ⌝ }
+    ensures { λ r. ⌜ says r ≡ octalEscape (chars (drop at (now (src .entry)))) ⌝ }
 {
     let n = numeral_at(src, at, 8, 3);
     Escaped {
@@ -111,7 +112,7 @@ fn octal_at(src: &[u8], at: usize) -> Escaped
 
 // The escape at a place after a backslash.
 pub fn escape_at(src: &[u8], at: usize, quote: u8) -> Escaped
-    ensures { λ r. ⌜ r ≡ escapeOf quote (chars (drop at (now (src .entry)))) ⌝ }
+    ensures { λ r. ⌜ says r ≡ escapeOf quote (chars (drop at (now (src .entry)))) ⌝ }
 {
     if src.len() <= at {
         return Escaped {

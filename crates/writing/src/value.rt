@@ -11,15 +11,14 @@ ghost use lib.Seq.{sets};
 ghost use Rattle.utf8.specs.Chars.{chars};
 ghost use Rattle.spans.specs.Span.{toStop};
 ghost use Rattle.spans.specs.Body.{clean, rawInside};
-ghost use Rattle.quotes.specs.declared.Given.the-variants.{Value};
-ghost use Rattle.quotes.specs.Escape.{bytesOf};
+ghost use Rattle.quotes.specs.Answers.{character, bytesOf};
 ghost use Rattle.quotes.specs.Body.{body};
 ghost use Rattle.writing.specs.Writes.{Writes};
 
 // Writes what an escape gives, and answers the place after it.
 fn put_given(code: u32, byte: bool, area: &mut [u8], to: usize) -> usize
     requires { ⌜ (byte ≡ true → code ≤ 255) ⌝ }
-    ensures { λ r. ⌜ Writes (now (area .entry)) to (bytesOf (Value code byte)) (now (area .exit)) r ⌝ }
+    ensures { λ r. ⌜ Writes (now (area .entry)) to (bytesOf (character code byte)) (now (area .exit)) r ⌝ }
 {
     if byte {
         put(area, to, code as u8)

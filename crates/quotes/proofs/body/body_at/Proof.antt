@@ -1,6 +1,6 @@
 -- `quotes::body::body_at` meets its contract. The loop's invariant: what was read and what is left make the whole.
 use Prim.Native.Nat.{_+_, _*_, _-_, _^_, _≤_, _<_}
-use mathlib.Core.Path.{_≡_, refl, sym, _∙_}
+use mathlib.Core.Path.{_≡_, refl, sym, ap, _∙_}
 use mathlib.Core.List.{[], _∷_}
 use mathlib.Core.Bool.{true, false, cond}
 use native.Mathlib.Nat.{le-refl}
@@ -14,7 +14,7 @@ use Rattle.utf8.proofs.First.{there-fits, there-least}
 use Rattle.quotes.proofs.Given.{enum}
 use Rattle.quotes.specs.declared.Given.{Given}
 use Rattle.quotes.specs.declared.Given.the-variants.{Value, Bad}
-use Rattle.quotes.specs.Escape.{bytesOf}
+use Rattle.quotes.specs.Answers.{character, noCharacter, meaningOf, says, bytesOf}
 use Rattle.quotes.specs.Body.{quotedAt}
 use Rattle.quotes.specs.Steps.{errorOf}
 use Rattle.quotes.proofs.Bodies.{escape-gives}
@@ -37,7 +37,7 @@ short c = omega (arith, c .before .before .before .good .0 .1)
 -- an escape ends within the text
 fits : (c : tie.After-escape-at Inv-loop μ-loop)
     → c .before .before .before .before .before .before .loop .p + (c .escape-at .result .len + 1) ≤ length (c .before .before .before .before .before .before .before .before .before .args .src .now)
-fits c = escape-fits _ _ _ (c .escape-at .result) (c .before .before .before .before .before .loop-test .taken) (c .escape-at .ensures)
+fits c = escape-fits _ _ _ (says (c .escape-at .result)) (c .before .before .before .before .before .loop-test .taken) (c .escape-at .ensures)
 
 len-fits : (c : tie.After-escape-at Inv-loop μ-loop)
     → c .escape-at .result .len + 1 ≤ length (c .before .before .before .before .before .before .before .before .before .args .src .now)
@@ -53,7 +53,7 @@ below c = still (c .before .loop .p) _ (sooner (c .before .loop .p) _ (c .loop-t
 given-fits : (c : tie.After-given-len Inv-loop μ-loop) → c .given-len .result ≤ 2 * (c .before .before .before .before .before .escape-at .result .len + 1)
 given-fits c =
     let x = c .before .before .before .before .before .escape-at in
-    rw (c .given-len .ensures) (escape-gives _ _ (x .result) (Value (c .before .before .given .given .0 .0) (c .before .before .given .given .0 .1 .0)) (x .ensures) (c .before .before .given .given .1))
+    rw (c .given-len .ensures) (escape-gives _ _ (says (x .result)) (character (c .before .before .given .given .0 .0) (c .before .before .given .given .0 .1 .0)) (x .ensures) (ap meaningOf (c .before .before .given .given .1)))
 
 -- a character that was read is within the text, and takes a byte or more
 char-fits : (c : tie.After-char-at Inv-loop μ-loop)
@@ -71,7 +71,7 @@ run-ahead : (c : tie.After-plain-end Inv-loop μ-loop) → c .before .before .be
 run-ahead c = run-some _ _ (c .before .before .before .before .before .before .before .loop .p) (c .plain-end .result) (c .plain-end .ensures)
 
 -- in the else: an escape that gives nothing
-not-value : (g : Given) → OneOf (1 ∷ []) (tagOf (declared enum) g) → g ≡ Bad (errorOf g)
+not-value : (g : Given) → OneOf (1 ∷ []) (tagOf (declared enum) g) → meaningOf g ≡ noCharacter (errorOf (meaningOf g))
 not-value (Value code byte) k = absurd (omega arith)
 not-value (Bad error) k = refl
 
@@ -144,10 +144,10 @@ returns-3 c =
     let h = c .before .before .before .before .before .before .before .before .before .before .loop-test .taken in
     let w = l .loop .inv .0 in
     let x = c .before .before .before .before .before .escape-at in
-    let n : x .result .given ≡ Bad (errorOf (x .result .given)) = not-value (x .result .given) (c .before .before .before .match .keys2) in
+    let n : meaningOf (x .result .given) ≡ noCharacter (errorOf (meaningOf (x .result .given))) = not-value (x .result .given) (c .before .before .before .match .keys2) in
     c .stop3 .ensures
     ∙ rw (c .before .error-of .ensures)
-    (step-bad (a .quote) (l .before .before .before .pre) (a .src .now) (l .loop .p) (l .loop .q) h (c .before .before .before .before .before .before .before .before .if1 .left) (c .before .before .before .before .before .before .if3 .taken) (x .result) (x .ensures) (errorOf (x .result .given)) (w .4) n)
+    (step-bad (a .quote) (l .before .before .before .pre) (a .src .now) (l .loop .p) (l .loop .q) h (c .before .before .before .before .before .before .before .before .if1 .left) (c .before .before .before .before .before .before .if3 .taken) (says (x .result)) (x .ensures) (errorOf (meaningOf (x .result .given))) (w .4) n)
     ∙ sym (l .loop .inv .2)
 
 given-len-requires : tie.Need-given-len-requires Inv-loop μ-loop
@@ -174,10 +174,10 @@ loop-again c =
     let v = c .before .before .before .given .given in
     let m = rw (c .before .given-len .ensures) at (given-fits (c .before)) in
     rw (c .add .ensures, c .before .given-len .ensures) (
-      added-within (l .loop .p) n (l .loop .q) n (v .0 .0) (length (bytesOf (Value (v .0 .0) (v .0 .1 .0)))) 0 true (l .loop .inv .0) (le-refl n) (one-le _) (none-le n) m,
-      added-chars (l .loop .p) n _ (l .loop .q) n (v .0 .0) (length (bytesOf (Value (v .0 .0) (v .0 .1 .0)))) 0 true (l .loop .inv .0) (fits (c .before .before .before .before .before .before)) (le-refl n),
+      added-within (l .loop .p) n (l .loop .q) n (v .0 .0) (length (bytesOf (character (v .0 .0) (v .0 .1 .0)))) 0 true (l .loop .inv .0) (le-refl n) (one-le _) (none-le n) m,
+      added-chars (l .loop .p) n _ (l .loop .q) n (v .0 .0) (length (bytesOf (character (v .0 .0) (v .0 .1 .0)))) 0 true (l .loop .inv .0) (fits (c .before .before .before .before .before .before)) (le-refl n),
       l .loop .inv .2
-          ∙ step-escape (a .quote) (l .before .before .before .pre) (a .src .now) (l .loop .p) (l .loop .q) (c .before .before .before .before .before .before .before .before .before .before .before .loop-test .taken) (c .before .before .before .before .before .before .before .before .before .if1 .left) (c .before .before .before .before .before .before .before .if3 .taken) (x .result) (x .ensures) (v .0 .0) (v .0 .1 .0) (v .1),
+          ∙ step-escape (a .quote) (l .before .before .before .pre) (a .src .now) (l .loop .p) (l .loop .q) (c .before .before .before .before .before .before .before .before .before .before .before .loop-test .taken) (c .before .before .before .before .before .before .before .before .before .if1 .left) (c .before .before .before .before .before .before .before .if3 .taken) (says (x .result)) (x .ensures) (v .0 .0) (v .0 .1 .0) (ap meaningOf (v .1)),
     )
 
 add-plain-end : tie.Need-add-plain-end Inv-loop μ-loop

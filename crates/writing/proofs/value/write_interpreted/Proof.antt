@@ -1,11 +1,12 @@
 -- `writing::value::write_interpreted` meets its contract. The loop's invariant: the value of what is left is to be written from the present place on.
 use Prim.Native.Nat.{_+_, _-_, _^_, _≤_, _<_}
-use mathlib.Core.Path.{_≡_, refl, _∙_}
+use mathlib.Core.Path.{_≡_, refl, ap, _∙_}
 use native.Mathlib.Omega.{arith}
 use borrow.Author.Needs.{needs}
 use lib.ListN.{length}
 use lib.Seq.{sets}
 use Rattle.utf8.proofs.First.{there-fits, there-least}
+use Rattle.quotes.specs.Answers.{meaningOf, says}
 use Rattle.quotes.proofs.Bounds.{fit64, right-part, less, one-le, next}
 use Rattle.quotes.proofs.Places.{escape-fits}
 use Rattle.writing.proofs.Areas.{left-as, finished}
@@ -26,7 +27,7 @@ short c = omega (arith, c .before .before .before .good .0 .1)
 
 -- an escape ends within the text
 escape-within : (c : tie.After-escape-at Inv-loop μ-loop) → c .before .before .before .before .before .before .loop .p + (c .escape-at .result .len + 1) ≤ length (c .before .before .before .before .before .before .before .before .before .args .src .now)
-escape-within c = escape-fits _ _ _ (c .escape-at .result) (c .before .before .before .before .before .loop-test .taken) (c .escape-at .ensures)
+escape-within c = escape-fits _ _ _ (says (c .escape-at .result)) (c .before .before .before .before .before .loop-test .taken) (c .escape-at .ensures)
 
 -- and so does a character, of a byte or more
 char-within : (c : tie.After-char-at Inv-loop μ-loop) → c .before .before .before .before .before .before .loop .p + c .char-at .result .width ≤ length (c .before .before .before .before .before .before .before .before .before .args .src .now)
@@ -76,13 +77,13 @@ returns-3 : tie.Need-returns-3 Inv-loop μ-loop
 returns-3 c =
     let l = c .before .before .before .before .before .before .before .before in
     let x = c .before .before .escape-at in
-    finished (l .loop .area) (l .loop .n) (l .loop .inv .1) (value-bad _ (l .loop .p) (c .before .before .before .before .before .before .before .loop-test .taken) (c .before .before .before .before .before .if1 .left) (c .before .before .before .if3 .taken) (x .result) (x .ensures) (c .before .match .keys2))
+    finished (l .loop .area) (l .loop .n) (l .loop .inv .1) (value-bad _ (l .loop .p) (c .before .before .before .before .before .before .before .loop-test .taken) (c .before .before .before .before .before .if1 .left) (c .before .before .before .if3 .taken) (says (x .result)) (x .ensures) (x .result .given) refl (c .before .match .keys2))
 
 put-given-requires : tie.Need-put-given-requires Inv-loop μ-loop
 put-given-requires c κs =
     let x = c .before .before .before .before .escape-at in
     let v = c .before .before .given .given in
-    given-byte _ (x .result) (v .0 .0) (v .0 .1 .0) (x .ensures) (v .1)
+    given-byte _ (says (x .result)) (v .0 .0) (v .0 .1 .0) (x .ensures) (ap meaningOf (v .1))
 
 add-p : tie.Need-add-p Inv-loop μ-loop
 add-p c = record { fits = fit64 _ _ (right-part _ _ _ (escape-within (c .before .before .before .before .before .before .before .before))) (short (c .before .before .before .before .before .before .before .before .before .before .before .before .before .before)) }
@@ -99,7 +100,7 @@ loop-again c =
     let x = c .before .before .before .before .before .before .before .before .escape-at in
     let v = c .before .before .before .before .before .before .given .given in (
       c .before .before .before .put-given .kept .1 .1 .0 ∙ l .loop .inv .0,
-      left-as (l .loop .area) (l .loop .n) (l .loop .inv .1) (value-escape _ (l .loop .p) (c .before .before .before .before .before .before .before .before .before .before .before .before .before .loop-test .taken) (c .before .before .before .before .before .before .before .before .before .before .before .if1 .left) (c .before .before .before .before .before .before .before .before .before .if3 .taken) (x .result) (x .ensures) (v .0 .0) (v .0 .1 .0) (v .1)) ∙ c .before .before .before .put-given .ensures _,
+      left-as (l .loop .area) (l .loop .n) (l .loop .inv .1) (value-escape _ (l .loop .p) (c .before .before .before .before .before .before .before .before .before .before .before .before .before .loop-test .taken) (c .before .before .before .before .before .before .before .before .before .before .before .if1 .left) (c .before .before .before .before .before .before .before .before .before .if3 .taken) (says (x .result)) (x .ensures) (v .0 .0) (v .0 .1 .0) (ap meaningOf (v .1))) ∙ c .before .before .before .put-given .ensures _,
     )
 
 char-at-requires : tie.Need-char-at-requires Inv-loop μ-loop
