@@ -13,6 +13,7 @@ use Rattle.utf8.specs.declared.Char.{Char}
 use Rattle.utf8.specs.Chars.{charAt, chars, widths}
 use Rattle.utf8.proofs.First.{charAt-in, chars-ascii, there-chars}
 use Rattle.utf8.proofs.Places.{code-there, place-chars}
+use Rattle.errors.specs.Numbers.{OPEN-QUOTE}
 use Rattle.digits.specs.Digit.{digitVal}
 use Rattle.quotes.specs.declared.numeral.Numeral.{Numeral}
 use Rattle.quotes.specs.Answers.{Meaning, character, noCharacter, Escape}
@@ -71,7 +72,7 @@ module _ (quote : ℕ) (low : quote < 0x80) (s : List ℕ) (p : ℕ) (h : p < le
   at-quote e = rw (chars-ascii s p h (omega arith), eq-eqb _ _ e)
 
   module _ (no-quote : getD s p 0 ≡ quote → ⊥) where
-    pub at-lf : getD s p 0 ≡ 10 → body quote (chars (drop p s)) ≡ ends 0 false 8
+    pub at-lf : getD s p 0 ≡ 10 → body quote (chars (drop p s)) ≡ ends 0 false OPEN-QUOTE
     unfolding bodyFrom
     at-lf e = rw (chars-ascii s p h (omega arith), ne-eqb _ _ no-quote, eq-eqb _ _ e)
 

@@ -1,11 +1,13 @@
 -- The body of a quoted literal, from after its opening quote.
 use Prim.Native.Nat.{ℕ, zero, suc, _+_, _*_, _-_}
+use Prim.Native.Char.{code}
 use mathlib.Core.Bool.{Bool, true, false, cond}
 use mathlib.Core.List.{List, [], _∷_, _++_}
 use lib.Dec.{eqb}
 use lib.ListN.{length, take, drop}
 use Rattle.utf8.specs.declared.Char.{Char}
 use Rattle.utf8.specs.Chars.{chars, widths, isStray, encode}
+use Rattle.errors.specs.Numbers.{OPEN-QUOTE}
 use Rattle.quotes.specs.declared.Quoted.{Quoted}
 use Rattle.quotes.specs.Answers.{Meaning, character, noCharacter, bytesOf}
 use Rattle.quotes.specs.Escape.{escapeOf}
@@ -59,13 +61,13 @@ escape n (character code byte) b =
       strays = b .strays;
     }
 
--- the body in a literal with the quote given, after k characters that belong to an escape; error 8 where an LF or the end stands in place of the closing quote
+-- the body in a literal with the quote given, after k characters that belong to an escape; an error where an LF or the end stands in place of the closing quote
 unfoldable pub bodyFrom : ℕ → ℕ → List Char → Body
-bodyFrom quote k [] = ends 0 false 8
+bodyFrom quote k [] = ends 0 false OPEN-QUOTE
 bodyFrom quote zero (c ∷ r) =
     cond (eqb (c .code) quote) (ends 1 true 0)
-    (cond (eqb (c .code) 10) (ends 0 false 8)
-    (cond (eqb (c .code) 92) (escape (suc (escapeOf quote r .len)) (escapeOf quote r .meaning) (bodyFrom quote (escapeOf quote r .len) r))
+    (cond (eqb (c .code) (code "\n")) (ends 0 false OPEN-QUOTE)
+    (cond (eqb (c .code) (code "\\")) (escape (suc (escapeOf quote r .len)) (escapeOf quote r .meaning) (bodyFrom quote (escapeOf quote r .len) r))
     (plain c (bodyFrom quote 0 r))))
 bodyFrom quote (suc k) (c ∷ r) = bodyFrom quote k r
 

@@ -55,6 +55,14 @@ codeOf n =
     (cond (ltb 0x10FFFF (n .value)) overRange (cond (between 0xD800 (n .value) 0xDFFF) (noCharacter NO-CODE-POINT) (character (n .value) false)))
     (noCharacter (n .error))
 
+-- one that is not read, for an error
+abbrev pub unreadEscape : ℕ → Escape
+unreadEscape error = record { len = 0; meaning = noCharacter error }
+
+-- one character that gives a code
+abbrev pub singleEscape : ℕ → Escape
+singleEscape c = record { len = 1; meaning = character c false }
+
 -- three octal digits
 unfoldable pub octalEscape : List Char → Escape
 octalEscape r = record { len = numeral 8 3 0 r .len; meaning = byteOf (numeral 8 3 0 r) }
@@ -62,20 +70,16 @@ octalEscape r = record { len = numeral 8 3 0 r .len; meaning = byteOf (numeral 8
 -- the escape of hexadecimal digits, by its first character and what follows it
 unfoldable pub hexEscape : ℕ → List Char → Escape
 hexEscape first r =
-    cond (eqb (following first) 0) (record { len = 0; meaning = noCharacter UNKNOWN-ESCAPE })
+    cond (eqb (following first) 0) (unreadEscape UNKNOWN-ESCAPE)
     (record {
       len = suc (numeral 16 (following first) 0 r .len);
       meaning = cond (eqb first (code "x")) (byteOf (numeral 16 (following first) 0 r)) (codeOf (numeral 16 (following first) 0 r));
     })
 
--- one character that gives a code
-abbrev pub single : ℕ → Escape
-single c = record { len = 1; meaning = character c false }
-
 -- the escape that follows a backslash in a literal with the quote given; the end of the text cuts it
 unfoldable pub escapeOf : ℕ → List Char → Escape
-escapeOf quote [] = record { len = 0; meaning = noCharacter CUT-ESCAPE }
+escapeOf quote [] = unreadEscape CUT-ESCAPE
 escapeOf quote (c ∷ r) =
     cond (eqb (letter (c .code)) 0)
-    (cond (eqb (c .code) quote) (single (c .code)) (cond (ltb (digitVal (c .code)) 8) (octalEscape (c ∷ r)) (hexEscape (c .code) r)))
-    (single (letter (c .code)))
+    (cond (eqb (c .code) quote) (singleEscape (c .code)) (cond (ltb (digitVal (c .code)) 8) (octalEscape (c ∷ r)) (hexEscape (c .code) r)))
+    (singleEscape (letter (c .code)))

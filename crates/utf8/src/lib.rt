@@ -32,10 +32,8 @@ pub fn char_at(s: &[u8], at: usize) -> Char
     }
     let a = s[at];
     if a < 0x80 {
-        return Char {
-            code: a as u32,
-            width: 1,
-        };
+        let code = a as u32;
+        return Char { code, width: 1 };
     }
     sequence::decode(
         a,
