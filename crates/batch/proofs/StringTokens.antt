@@ -9,7 +9,7 @@ use lib.ListN.{length, drop, getD}
 use lib.Seq.{sets}
 use Rattle.utf8.specs.Chars.{chars}
 use Rattle.kinds.specs.Kinds.{STRING}
-use Rattle.quotes.specs.Steps.{plainLen}
+use Rattle.quotes.specs.Plain.{plainLen}
 use Rattle.quotes.proofs.PlainRuns.{closedAt, run-closed}
 use Rattle.lexer.specs.declared.lexed.Lexed.{Lexed}
 use Rattle.lexer.specs.declared.lexed.Value.the-variants.{Interpreted}

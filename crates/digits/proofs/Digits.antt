@@ -1,11 +1,12 @@
 -- Laws of digits: the tests of the code in their order, and the digit at a place of a text.
-use Prim.Native.Nat.{ℕ, _-_, _≤_, _<_}
+use Prim.Native.Nat.{ℕ, _+_, _-_, _≤_, _<_}
+use Prim.Native.Char.{code}
 use mathlib.Core.Path.{_≡_}
 use mathlib.Core.Bool.{Bool, cond}
 use mathlib.Core.List.{List}
 use native.Mathlib.Omega.{arith}
 use native.Mathlib.Decide.{decLt}
-use lib.Dec.{ltb, eqb, eqb→eq}
+use lib.Dec.{ltb, leb, eqb, eqb→eq}
 use lib.ListN.{length, getD, drop}
 use borrow.Author.Tests.{lt-leb, le-leb}
 use Rattle.basics.proofs.Every.{every-below}
@@ -16,7 +17,13 @@ use Rattle.digits.specs.Digit.{digitVal}
 -- the same number by the bounds of the ranges, in their order
 abbrev pub byBounds : ℕ → ℕ
 byBounds b =
-    cond (ltb b 48) 16 (cond (ltb b 58) (b - 48) (cond (ltb b 65) 16 (cond (ltb b 71) (b - 55) (cond (ltb b 97) 16 (cond (ltb b 103) (b - 87) 16)))))
+    cond (ltb b (code "0")) 16
+    (cond (leb b (code "9")) (b - code "0")
+    (cond (ltb b (code "A")) 16
+    (cond (leb b (code "F")) (b - code "A" + 10)
+    (cond (ltb b (code "a")) 16
+    (cond (leb b (code "f")) (b - code "a" + 10)
+    16)))))
 
 right : ℕ → Bool
 right b = eqb (byBounds b) (digitVal b)
@@ -29,7 +36,7 @@ digit-by-bounds b h = eqb→eq _ _ (every-below right 256 tt b h)
 pub digit-high : (c : ℕ) → 128 ≤ c → digitVal c ≡ 16
 unfolding digitVal
 digit-high c h =
-    simp (le-leb 48 c (omega arith), lt-leb c 57 (omega arith), le-leb 97 c (omega arith), lt-leb c 102 (omega arith), le-leb 65 c (omega arith), lt-leb c 70 (omega arith))
+    simp (le-leb (code "0") c (omega arith), lt-leb c (code "9") (omega arith), le-leb (code "a") c (omega arith), lt-leb c (code "f") (omega arith), le-leb (code "A") c (omega arith), lt-leb c (code "F") (omega arith))
 
 pub digit-low : (c : ℕ) → digitVal c < 16 → c < 0x80
 digit-low c l = elim (decLt c 0x80) [ yes k ↦ k | no k ↦ absurd (omega (arith, digit-high c (omega arith))) ]

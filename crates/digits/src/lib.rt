@@ -6,26 +6,26 @@ ghost use Rattle.digits.specs.Digit.{digitVal, isDecimal};
 pub fn digit_val(b: u8) -> u8
     ensures { λ r. ⌜ r ≡ digitVal b ⌝ }
 {
-    if b < 48 {
+    if b < b'0' {
         return 16;
     }
-    if b < 58 {
-        return b - 48;
+    if b <= b'9' {
+        return b - b'0';
     }
-    if b < 65 {
+    if b < b'A' {
         return 16;
     }
-    if b < 71 {
-        return b - 55;
+    if b <= b'F' {
+        return b - b'A' + 10;
     }
-    if b < 97 {
+    if b < b'a' {
         return 16;
     }
-    if b < 103 { b - 87 } else { 16 }
+    if b <= b'f' { b - b'a' + 10 } else { 16 }
 }
 
 pub fn is_decimal(b: u8) -> bool
     ensures { λ r. ⌜ r ≡ isDecimal b ⌝ }
 {
-    48 <= b && b <= 57
+    b'0' <= b && b <= b'9'
 }

@@ -13,12 +13,10 @@ use Rattle.basics.proofs.Choice.{cond-ind, either, and-split}
 use Rattle.utf8.specs.declared.Char.{Char}
 use Rattle.utf8.specs.Chars.{octets, isScalar, encode, isStray, widths}
 use Rattle.digits.specs.Digit.{digitVal}
-use Rattle.quotes.specs.declared.Given.{Given}
-use Rattle.quotes.specs.declared.Given.the-variants.{Value, Bad}
-use Rattle.quotes.specs.declared.Escaped.{Escaped}
 use Rattle.quotes.specs.declared.numeral.Numeral.{Numeral}
+use Rattle.quotes.specs.Answers.{Meaning, character, noCharacter, Escape, bytesOf}
 use Rattle.quotes.specs.Numeral.{numeral}
-use Rattle.quotes.specs.Escape.{letter, following, byteOf, codeOf, octalEscape, hexEscape, escapeOf, bytesOf}
+use Rattle.quotes.specs.Escape.{letter, following, byteOf, codeOf, octalEscape, hexEscape, escapeOf}
 use Rattle.quotes.specs.Body.{Body, plain, escape, bodyFrom, body}
 
 pub body-skip : (quote k : ℕ) (r : List Char) → bodyFrom quote k r ≡ body quote (drop k r)
@@ -45,9 +43,9 @@ stray-size c =
 plain-size : (c : Char) (b : Body) → 2 * b .strays ≤ length (b .value) → 2 * plain c b .strays ≤ length (plain c b .value)
 plain-size c b h = omega (arith, stray-size c, length-append (encode (c .code)) (b .value))
 
-escape-size : (n : ℕ) (g : Given) (b : Body) → 2 * b .strays ≤ length (b .value) → 2 * escape n g b .strays ≤ length (escape n g b .value)
-escape-size n (Bad error) b h = lit≤ tt
-escape-size n (Value code byte) b h = omega (arith, length-append (bytesOf (Value code byte)) (b .value))
+escape-size : (n : ℕ) (g : Meaning) (b : Body) → 2 * b .strays ≤ length (b .value) → 2 * escape n g b .strays ≤ length (escape n g b .value)
+escape-size n (noCharacter error) b h = lit≤ tt
+escape-size n (character code byte) b h = omega (arith, length-append (bytesOf (character code byte)) (b .value))
 
 abbrev Roomy : Body → Type 0
 Roomy b = 2 * b .strays ≤ length (b .value)
@@ -60,15 +58,15 @@ strays-fit quote (c ∷ r) zero =
     cond-ind Roomy (eqb (c .code) quote) _ _ (λ _. lit≤ tt)
     (λ _. cond-ind Roomy (eqb (c .code) 10) _ _ (λ _. lit≤ tt)
     (λ _. cond-ind Roomy (eqb (c .code) 92) _ _
-    (λ _. escape-size _ (escapeOf quote r .given) (bodyFrom quote (escapeOf quote r .len) r) (strays-fit quote r (escapeOf quote r .len))) (λ _. plain-size c (bodyFrom quote 0 r) (strays-fit quote r 0))))
+    (λ _. escape-size _ (escapeOf quote r .meaning) (bodyFrom quote (escapeOf quote r .len) r) (strays-fit quote r (escapeOf quote r .len))) (λ _. plain-size c (bodyFrom quote 0 r) (strays-fit quote r 0))))
 
 -- ---- a closed body has no error
 abbrev Sound : Body → Type 0
 Sound b = b .closed ≡ true → b .error ≡ 0
 
-escape-sound : (n : ℕ) (g : Given) (b : Body) → Sound b → Sound (escape n g b)
-escape-sound n (Bad error) b f e = absurd (false≢true e)
-escape-sound n (Value code byte) b f e = f e
+escape-sound : (n : ℕ) (g : Meaning) (b : Body) → Sound b → Sound (escape n g b)
+escape-sound n (noCharacter error) b f e = absurd (false≢true e)
+escape-sound n (character code byte) b f e = f e
 
 from-sound : (quote : ℕ) (r : List Char) (k : ℕ) → Sound (bodyFrom quote k r)
 unfolding bodyFrom
@@ -79,7 +77,7 @@ from-sound quote (c ∷ r) zero =
     cond-ind Sound (eqb (c .code) quote) _ _ (λ _ e. refl)
     (λ _. cond-ind Sound (eqb (c .code) 10) _ _ (λ _ e. absurd (false≢true e))
     (λ _. cond-ind Sound (eqb (c .code) 92) _ _
-    (λ _. escape-sound (suc n) (escapeOf quote r .given) (bodyFrom quote n r) (from-sound quote r n)) (λ _. from-sound quote r 0)))
+    (λ _. escape-sound (suc n) (escapeOf quote r .meaning) (bodyFrom quote n r) (from-sound quote r n)) (λ _. from-sound quote r 0)))
 
 pub closed-sound : (quote : ℕ) (r : List Char) → body quote r .closed ≡ true → body quote r .error ≡ 0
 closed-sound quote r = from-sound quote r 0
@@ -88,11 +86,11 @@ closed-sound quote r = from-sound quote r 0
 abbrev Short : List ℕ → Type 0
 Short l = length l ≤ 4
 
-abbrev One : Given → Type 0
+abbrev One : Meaning → Type 0
 One g = length (bytesOf g) ≤ 1
 
-abbrev Twice : Escaped → Type 0
-Twice x = length (bytesOf (x .given)) ≤ 2 * (x .len + 1)
+abbrev Twice : Escape → Type 0
+Twice x = length (bytesOf (x .meaning)) ≤ 2 * (x .len + 1)
 
 pub encode-most : (n : ℕ) → length (encode n) ≤ 4
 unfolding encode octets
@@ -102,10 +100,10 @@ encode-most n =
     (λ _. cond-ind Short (ltb n 0x800) _ _ (λ _. lit≤ tt) (λ _. cond-ind Short (ltb n 0x10000) _ _ (λ _. lit≤ tt) (λ _. lit≤ tt))))
     (λ _. lit≤ tt)
 
-given-most : (g : Given) → length (bytesOf g) ≤ 4
-given-most (Value code true) = lit≤ tt
-given-most (Value code false) = encode-most code
-given-most (Bad error) = lit≤ tt
+given-most : (g : Meaning) → length (bytesOf g) ≤ 4
+given-most (character code true) = lit≤ tt
+given-most (character code false) = encode-most code
+given-most (noCharacter error) = lit≤ tt
 
 pub byte-most : (n : Numeral) → length (bytesOf (byteOf n)) ≤ 1
 unfolding byteOf
@@ -127,5 +125,5 @@ escape-bytes quote (c ∷ r) =
     (λ _. cond-ind Twice (ltb (digitVal (c .code)) 8) _ _ (λ _. omega (arith, byte-most (numeral 8 3 0 (c ∷ r)))) (λ _. hex-bytes (c .code) r)))
     (λ _. encode-most (letter (c .code)))
 
-pub escape-gives : (quote : ℕ) (r : List Char) (x : Escaped) (g : Given) → x ≡ escapeOf quote r → x .given ≡ g → length (bytesOf g) ≤ 2 * (x .len + 1)
-escape-gives quote r x g e v = subst (λ (y : Given). length (bytesOf y) ≤ 2 * (x .len + 1)) v (subst Twice (sym e) (escape-bytes quote r))
+pub escape-gives : (quote : ℕ) (r : List Char) (x : Escape) (g : Meaning) → x ≡ escapeOf quote r → x .meaning ≡ g → length (bytesOf g) ≤ 2 * (x .len + 1)
+escape-gives quote r x g e v = subst (λ (y : Meaning). length (bytesOf y) ≤ 2 * (x .len + 1)) v (subst Twice (sym e) (escape-bytes quote r))

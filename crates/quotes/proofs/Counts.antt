@@ -21,9 +21,8 @@ use Rattle.utf8.proofs.First.{ascii-there, chars-at, chars-end, chars-ascii, fi
 use Rattle.utf8.proofs.Places.{place-chars, place-fits, ascii-widths}
 use Rattle.utf8.proofs.Append.{first-stray}
 use Rattle.utf8.proofs.Encoding.{first-coded}
-use Rattle.quotes.specs.declared.Given.{Given}
-use Rattle.quotes.specs.declared.Given.the-variants.{Value, Bad}
-use Rattle.quotes.specs.Escape.{escapeOf, bytesOf}
+use Rattle.quotes.specs.Answers.{Meaning, character, noCharacter, bytesOf}
+use Rattle.quotes.specs.Escape.{escapeOf}
 use Rattle.quotes.specs.Body.{Body, ends, plain, escape, bodyFrom, body}
 use Rattle.quotes.proofs.Heads.{Heads, heads-bound, heads-at, escape-heads, escape-widths}
 use Rattle.quotes.proofs.Bodies.{body-skip, widths-split}
@@ -106,9 +105,9 @@ count-plain s p r b h i =
     }
 
 count-escape : (s : List ℕ) (p : ℕ) (c : Char) (r : List Char) (n : ℕ) (code : ℕ) (byte : Bool) (b : Body) → c .width ≡ 1 → widths (take n r) ≡ n
-    → highs (take (suc n) (drop p s)) ≡ 0 → length (bytesOf (Value code byte)) ≤ n → Counted s (p + suc n) (drop n r) b → Counted s p (c ∷ r) (escape (suc n) (Value code byte) b)
+    → highs (take (suc n) (drop p s)) ≡ 0 → length (bytesOf (character code byte)) ≤ n → Counted s (p + suc n) (drop n r) b → Counted s p (c ∷ r) (escape (suc n) (character code byte) b)
 count-escape s p c r n code byte b one ws low short i =
-    let v = bytesOf (Value code byte) in
+    let v = bytesOf (character code byte) in
     let w = widths (take (b .len) (drop n r)) in
     let e = rw (drop-drop (suc n) p s) at (take-add (suc n) w (drop p s)) in
     let d : widths (take (suc n + b .len) (c ∷ r)) ≡ suc n + w = rw (suc-add n (b .len)) (omega (arith, widths-split n (b .len) r)) in
@@ -129,19 +128,19 @@ module _ (quote : ℕ) (low : quote < 0x80) (s : List ℕ) where
       record { bytes = omega arith; high = rw (o) (omega (arith, low-highs 1 s p g)) }
 
   -- an escape that gives something, and what follows it
-  count-slash : (p : ℕ) (g : Given) (b : Body) → p < length s → firstChar (drop p s) .code ≡ 92
-      → escapeOf quote (chars (drop (p + 1) s)) .given ≡ g
+  count-slash : (p : ℕ) (g : Meaning) (b : Body) → p < length s → firstChar (drop p s) .code ≡ 92
+      → escapeOf quote (chars (drop (p + 1) s)) .meaning ≡ g
       → (b .closed ≡ true → Counted s (p + suc (escapeOf quote (chars (drop (p + 1) s)) .len)) (drop (escapeOf quote (chars (drop (p + 1) s)) .len) (chars (drop (p + 1) s))) b)
       → escape (suc (escapeOf quote (chars (drop (p + 1) s)) .len)) g b .closed ≡ true
       → Counted s p (firstChar (drop p s) ∷ chars (drop (p + 1) s)) (escape (suc (escapeOf quote (chars (drop (p + 1) s)) .len)) g b)
-  count-slash p (Bad error) b h e is i t = absurd (false≢true t)
-  count-slash p (Value code byte) b h e is i t =
+  count-slash p (noCharacter error) b h e is i t = absurd (false≢true t)
+  count-slash p (character code byte) b h e is i t =
       let r = chars (drop (p + 1) s) in
       let n = escapeOf quote r .len in
       let l : firstChar (drop p s) .code < 0x80 = omega arith in
       let k = escape-heads (λ c. c < 0x80) (λ c a b. omega arith) quote low r in
       let g : Heads (λ c. c < 0x80) (suc n) (chars (drop p s)) = rw (chars-ascii s p h (low-byte s p h l)) (low-byte s p h l, k) in
-      let m : length (bytesOf (Value code byte)) ≤ n = subst (λ (y : Given). length (bytesOf y) ≤ n) is (escape-shorter quote low r) in
+      let m : length (bytesOf (character code byte)) ≤ n = subst (λ (y : Meaning). length (bytesOf y) ≤ n) is (escape-shorter quote low r) in
       count-escape s p (firstChar (drop p s)) r n code byte b (one-byte s p h l) (escape-widths quote s (p + 1) low) (low-highs (suc n) s p g) m (i t)
 
   rest-is : (p : ℕ) → drop (escapeOf quote (chars (drop (p + 1) s)) .len) (chars (drop (p + 1) s)) ≡ chars (drop (p + suc (escapeOf quote (chars (drop (p + 1) s)) .len)) s)
@@ -170,7 +169,7 @@ module _ (quote : ℕ) (low : quote < 0x80) (s : List ℕ) where
       let n = escapeOf quote u .len in
       let o : p + c .width ≡ p + 1 = omega (arith, one-byte s p h l) in
       rw o
-      (count-slash p (escapeOf quote u .given) (bodyFrom quote n u) h f refl
+      (count-slash p (escapeOf quote u .meaning) (bodyFrom quote n u) h f refl
       (rw (body-skip quote n u, rest-is p) (ih (p + suc n) (omega arith)))))
       (λ _ t. count-plain s p r (body quote r) h (ih (p + c .width) (omega (arith, first-least (drop p s))) t))))
 

@@ -1,26 +1,24 @@
 -- The characters that an escape reads: they are there, and each is the quote or lies between 0 and z.
 use Prim.Native.Nat.{ℕ, zero, suc, _*_, _+_, _≤_, _<_, suc-le-suc}
-use mathlib.Core.Path.{_≡_, refl, sym, subst}
+use mathlib.Core.Path.{_≡_, sym, subst}
 use mathlib.Core.List.{List, [], _∷_}
-use mathlib.Core.Logic.{_⊎_, inl, inr, ⊎-elim}
+use mathlib.Core.Logic.{inl, inr, ⊎-elim}
 use native.Mathlib.Omega.{arith}
 use native.Mathlib.Nat.{not-suc-le-zero, le-of-suc-le-suc}
 use native.Mathlib.Decide.{decLt}
-use lib.Dec.{T, eqb, ltb}
+use lib.Dec.{eqb, ltb}
 use lib.ListN.{length, getD, take, drop}
 use borrow.Author.Tests.{eqb-true, eqb-false, ltb-true, lt-leb, le-leb}
-use Rattle.basics.specs.Between.{between}
-use Rattle.basics.proofs.Choice.{cond-ind, between-true, true-of}
-use Rattle.basics.proofs.Every.{each}
+use Rattle.basics.proofs.Choice.{cond-ind}
 use Rattle.utf8.specs.declared.Char.{Char}
 use Rattle.utf8.specs.Chars.{ended, chars, widths}
 use Rattle.utf8.proofs.Places.{ascii-widths}
 use Rattle.digits.specs.Digit.{digitVal}
 use Rattle.quotes.specs.declared.numeral.Numeral.{Numeral}
-use Rattle.quotes.specs.declared.Escaped.{Escaped}
+use Rattle.quotes.specs.Answers.{Escape}
 use Rattle.quotes.specs.Numeral.{numeral}
-use Rattle.quotes.specs.Escape.{lookup, letters, letter, following, octalEscape, hexEscape, escapeOf}
-use Rattle.quotes.proofs.EscapeLaws.{lookup-ind}
+use Rattle.quotes.specs.Escape.{letter, following, octalEscape, hexEscape, escapeOf}
+use Rattle.quotes.proofs.EscapeLaws.{Out, letter-out, following-out}
 
 -- n characters stand at the head of a list, and P holds of the code of each
 abbrev pub Heads : (ℕ → Type 0) → ℕ → List Char → Type 0
@@ -40,18 +38,12 @@ heads-at P (suc n) (c ∷ r) h zero l = h .0
 heads-at P (suc n) (c ∷ r) h (suc i) l = heads-at P n r (h .1) i (le-of-suc-le-suc l)
 
 -- ---- codes between 0 and z
-abbrev Out : ℕ → Type 0
-Out c = (c < 48) ⊎ (122 < c)
-
 within : (c : ℕ) → (Out c → ⊥) → (48 ≤ c) × (c ≤ 122)
 within c f =
     elim (decLt c 48) [
       | yes k ↦ absurd (f (inl k))
       | no k ↦ elim (decLt 122 c) [ yes m ↦ absurd (f (inr m)) | no m ↦ (omega arith, omega arith) ]
     ]
-
-apart : (c x : ℕ) → 48 ≤ x → x ≤ 122 → Out c → c ≡ x → ⊥
-apart c x l h o e = ⊎-elim (λ k. omega arith) (λ k. omega arith) o
 
 digit-out : (c : ℕ) → Out c → digitVal c ≡ 16
 unfolding digitVal
@@ -63,20 +55,6 @@ digit-out c o =
 
 digit-in : (c : ℕ) → digitVal c < 16 → (48 ≤ c) × (c ≤ 122)
 digit-in c d = within c (λ o. omega (arith, digit-out c o))
-
--- a table of such characters gives nothing to others
-lookup-out : (rows : List (ℕ × ℕ)) → T (each (λ row. between 48 (row .0) 122) rows) → (c : ℕ) → Out c → lookup c rows ≡ 0
-lookup-out rows t c o =
-    lookup-ind (λ row. between 48 (row .0) 122) (λ n. n ≡ 0) c refl
-    (λ row i e. let key = between-true 48 (row .0) 122 (true-of _ i) in absurd (apart c (row .0) (key .0) (key .1) o e)) rows t
-
-letter-out : (c : ℕ) → Out c → letter c ≡ 0
-unfolding letter
-letter-out = lookup-out letters tt
-
-following-out : (c : ℕ) → Out c → following c ≡ 0
-unfolding following
-following-out = lookup-out ((120, 2) ∷ (117, 4) ∷ (85, 8) ∷ []) tt
 
 -- ---- what holds of the quote and of all codes between 0 and z holds of what an escape reads
 module _ (P : ℕ → Type 0) (inside : (c : ℕ) → 48 ≤ c → c ≤ 122 → P c) where
@@ -92,7 +70,7 @@ module _ (P : ℕ → Type 0) (inside : (c : ℕ) → 48 ≤ c → c ≤ 122 →
   hex-heads : (c : Char) (r : List Char) → Heads P (hexEscape (c .code) r .len) (c ∷ r)
   unfolding hexEscape
   hex-heads c r =
-      cond-ind (λ (x : Escaped). Heads P (x .len) (c ∷ r)) (eqb (following (c .code)) 0) _ _ (λ _. tt)
+      cond-ind (λ (x : Escape). Heads P (x .len) (c ∷ r)) (eqb (following (c .code)) 0) _ _ (λ _. tt)
       (λ f. let g = within (c .code) (λ o. eqb-false _ _ f (following-out (c .code) o)) in (inside (c .code) (g .0) (g .1), numeral-heads 16 (following (c .code)) 0 r (omega arith)))
 
   module _ (quote : ℕ) (at-quote : P quote) where
@@ -100,10 +78,10 @@ module _ (P : ℕ → Type 0) (inside : (c : ℕ) → 48 ≤ c → c ≤ 122 →
     unfolding escapeOf octalEscape
     escape-heads [] = tt
     escape-heads (c ∷ r) =
-        cond-ind (λ (x : Escaped). Heads P (x .len) (c ∷ r)) (eqb (letter (c .code)) 0) _ _
-        (λ _. cond-ind (λ (x : Escaped). Heads P (x .len) (c ∷ r)) (eqb (c .code) quote) _ _
+        cond-ind (λ (x : Escape). Heads P (x .len) (c ∷ r)) (eqb (letter (c .code)) 0) _ _
+        (λ _. cond-ind (λ (x : Escape). Heads P (x .len) (c ∷ r)) (eqb (c .code) quote) _ _
         (λ q. (subst P (sym (eqb-true (c .code) quote q)) at-quote, tt))
-        (λ _. cond-ind (λ (x : Escaped). Heads P (x .len) (c ∷ r)) (ltb (digitVal (c .code)) 8) _ _
+        (λ _. cond-ind (λ (x : Escape). Heads P (x .len) (c ∷ r)) (ltb (digitVal (c .code)) 8) _ _
         (λ _. numeral-heads 8 3 0 (c ∷ r) (omega arith)) (λ _. hex-heads c r)))
         (λ l. let g = within (c .code) (λ o. eqb-false _ _ l (letter-out (c .code) o)) in (inside (c .code) (g .0) (g .1), tt))
 

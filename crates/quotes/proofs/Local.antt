@@ -13,8 +13,7 @@ use Rattle.utf8.specs.declared.Char.{Char}
 use Rattle.utf8.specs.Chars.{ended}
 use Rattle.utf8.proofs.Ends.{Ends, ends-tail, ends-more, ends-some}
 use Rattle.digits.specs.Digit.{digitVal}
-use Rattle.quotes.specs.declared.Given.{Given}
-use Rattle.quotes.specs.declared.Given.the-variants.{Value, Bad}
+use Rattle.quotes.specs.Answers.{Meaning, character, noCharacter}
 use Rattle.quotes.specs.Numeral.{numeral}
 use Rattle.quotes.specs.Escape.{letter, following, octalEscape, hexEscape, escapeOf}
 use Rattle.quotes.specs.Body.{Body, escape, bodyFrom, body}
@@ -25,9 +24,9 @@ module _ (P : ℕ → Type 0) (all : (c : ℕ) → (c ≡ 10 → ⊥) → P c) (
   in-escape : (r : List Char) → Heads P (escapeOf quote r .len) r
   in-escape r = escape-heads P (λ c l h. all c (λ e. omega arith)) quote at-quote r
 
-  after-escape : (c : Char) (r : List Char) (n : ℕ) (g : Given) (b : Body) → P (c .code) → Heads P n r → Heads P (n + b .len) r → Heads P (escape (suc n) g b .len) (c ∷ r)
-  after-escape c r n (Bad error) b p h k = (p, h)
-  after-escape c r n (Value code byte) b p h k = rw (suc-add n (b .len)) (p, k)
+  after-escape : (c : Char) (r : List Char) (n : ℕ) (g : Meaning) (b : Body) → P (c .code) → Heads P n r → Heads P (n + b .len) r → Heads P (escape (suc n) g b .len) (c ∷ r)
+  after-escape c r n (noCharacter error) b p h k = (p, h)
+  after-escape c r n (character code byte) b p h k = rw (suc-add n (b .len)) (p, k)
 
   pub body-heads : (r : List Char) (k : ℕ) → Heads P k r → Heads P (k + bodyFrom quote k r .len) r
   unfolding bodyFrom
@@ -39,7 +38,7 @@ module _ (P : ℕ → Type 0) (all : (c : ℕ) → (c ≡ 10 → ⊥) → P c) (
       (cond-ind (λ (b : Body). Heads P (b .len) (c ∷ r)) (eqb (c .code) quote) _ _ (λ e. (subst P (sym (eqb-true (c .code) quote e)) at-quote, tt))
       (λ _. cond-ind (λ (b : Body). Heads P (b .len) (c ∷ r)) (eqb (c .code) 10) _ _ (λ _. tt)
       (λ f. cond-ind (λ (b : Body). Heads P (b .len) (c ∷ r)) (eqb (c .code) 92) _ _
-      (λ _. after-escape c r n (escapeOf quote r .given) (bodyFrom quote n r) (all (c .code) (eqb-false (c .code) 10 f)) (in-escape r) (body-heads r n (in-escape r)))
+      (λ _. after-escape c r n (escapeOf quote r .meaning) (bodyFrom quote n r) (all (c .code) (eqb-false (c .code) 10 f)) (in-escape r) (body-heads r n (in-escape r)))
       (λ _. (all (c .code) (eqb-false (c .code) 10 f), rw (zero-add (bodyFrom quote 0 r .len)) at (body-heads r 0 tt))))))
 
   whole : (r : List Char) → Heads P (body quote r .len) r

@@ -4,7 +4,7 @@ use mathlib.Core.Path.{_≡_, ap, _∙_}
 use mathlib.Core.List.{List, [], _∷_}
 use native.Mathlib.Omega.{arith}
 use native.Mathlib.Numerals.{add-one}
-use native.Mathlib.Nat.{add-zero, pow-suc, pow-le-pow-right, mul-le-mul, suc-mul}
+use native.Mathlib.Nat.{add-zero, zero-add, pow-suc, pow-le-pow-right, mul-le-mul, suc-mul}
 use lib.Dec.{ltb}
 use lib.ListN.{length, getD, drop}
 use borrow.Author.Tests.{lt-ltb, le-ltb}
@@ -12,6 +12,7 @@ use Rattle.basics.proofs.Choice.{cond-ind}
 use Rattle.utf8.specs.declared.Char.{Char}
 use Rattle.utf8.specs.Chars.{chars}
 use Rattle.utf8.proofs.First.{chars-at, chars-end, chars-ascii}
+use Rattle.errors.specs.Numbers.{CUT-ESCAPE, BAD-ESCAPE}
 use Rattle.digits.specs.Digit.{digitVal}
 use Rattle.digits.proofs.Digits.{digit-low, digit-there}
 use Rattle.quotes.specs.declared.numeral.Numeral.{Numeral}
@@ -21,40 +22,49 @@ use Rattle.quotes.specs.Numeral.{stop, more, numeral}
 abbrev pub grown : ℕ → Numeral → Numeral
 grown n d = record { value = d .value; len = n + d .len; error = d .error }
 
-pub grown-none : (at : ℕ) (d : Numeral) → d ≡ grown (at - at) d
-grown-none at d = let e : at - at + d .len ≡ d .len = omega arith in rw e
+grown-none : (d : Numeral) → d ≡ grown 0 d
+grown-none d = rw (zero-add (d .len))
 
-pub grown-more : (at p : ℕ) (d : Numeral) → at ≤ p → grown (p - at) (more d) ≡ grown (p + 1 - at) d
-grown-more at p d h = let e : p - at + suc (d .len) ≡ p + 1 - at + d .len = omega arith in rw e
+pub grown-more : (n : ℕ) (d : Numeral) → grown n (more d) ≡ grown (n + 1) d
+grown-more n d = let e : n + suc (d .len) ≡ n + 1 + d .len = omega arith in rw e
 
 pub grown-stop : (n v e : ℕ) → grown n (stop v e) ≡ record { value = v; len = n; error = e }
 grown-stop n v e = rw (add-zero n)
 
-one-less : (n : ℕ) → 0 < n → n ≡ suc (n - 1)
-one-less n h = omega arith
+-- the digits that are left after the first so many of them
+abbrev pub left-of : ℕ → ℕ → List ℕ → ℕ → ℕ → ℕ → Numeral
+left-of base count s at len v = numeral base (count - len) v (chars (drop (at + len) s))
 
-module _ (base left : ℕ) (s : List ℕ) (p v : ℕ) where
-  pub numeral-done : left ≡ 0 → numeral base left v (chars (drop p s)) ≡ stop v 0
+pub none-read : (base count : ℕ) (s : List ℕ) (at : ℕ) → numeral base count 0 (chars (drop at s)) ≡ grown 0 (left-of base count s at 0 0)
+none-read base count s at =
+    let whole : count - 0 ≡ count = omega arith in
+    rw (whole, add-zero at) (grown-none (numeral base count 0 (chars (drop at s))))
+
+module _ (base count : ℕ) (s : List ℕ) (at len v : ℕ) where
+  pub all-read : count ≤ len → left-of base count s at len v ≡ stop v 0
   unfolding numeral
-  numeral-done h = rw h
+  all-read h = let none : count - len ≡ 0 = omega arith in rw none
 
-  module _ (some : 0 < left) where
-    pub numeral-cut : length s ≤ p → numeral base left v (chars (drop p s)) ≡ stop v 10
+  module _ (some : len < count) where
+    one-less : count - len ≡ suc (count - (len + 1))
+    one-less = omega arith
+
+    pub next-cut : length s ≤ at + len → left-of base count s at len v ≡ stop v CUT-ESCAPE
     unfolding numeral
-    numeral-cut h = rw (one-less left some, chars-end s p h)
+    next-cut h = rw (one-less, chars-end s (at + len) h)
 
-    module _ (more : p < length s) where
-      pub numeral-off : base ≤ digitVal (getD s p 0) → numeral base left v (chars (drop p s)) ≡ stop v 11
+    module _ (h : at + len < length s) where
+      pub next-off : base ≤ digitVal (getD s (at + len) 0) → left-of base count s at len v ≡ stop v BAD-ESCAPE
       unfolding numeral
-      numeral-off d = rw (one-less left some, chars-at s p more, digit-there s p more, le-ltb _ _ d)
+      next-off d = rw (one-less, chars-at s (at + len) h, digit-there s (at + len) h, le-ltb _ _ d)
 
--- a digit more
-module _ (base left : ℕ) (s : List ℕ) (p v : ℕ) (some : 0 < left) (h : p < length s) where
-  pub numeral-digit : digitVal (getD s p 0) < base → base ≤ 16
-      → numeral base left v (chars (drop p s)) ≡ more (numeral base (left - 1) (v * base + digitVal (getD s p 0)) (chars (drop (p + 1) s)))
-  unfolding numeral
-  numeral-digit d l =
-      ap (λ n. numeral base n v (chars (drop p s))) (one-less left some) ∙ rw (chars-ascii s p h (digit-low (getD s p 0) (omega (arith, d, l))), lt-ltb _ _ d)
+      pub next-digit : digitVal (getD s (at + len) 0) < base → base ≤ 16
+          → left-of base count s at len v ≡ more (left-of base count s at (len + 1) (v * base + digitVal (getD s (at + len) 0)))
+      unfolding numeral
+      next-digit d l =
+          let place : at + (len + 1) ≡ at + len + 1 = omega arith in
+          ap (λ n. numeral base n v (chars (drop (at + len) s))) one-less
+          ∙ rw (place, chars-ascii s (at + len) h (digit-low (getD s (at + len) 0) (omega (arith, d, l))), lt-ltb _ _ d)
 
 -- no more digits than asked for
 pub numeral-len : (base n v : ℕ) (r : List Char) → numeral base n v r .len ≤ n
@@ -71,12 +81,6 @@ grow v b d k h hb hd = rw (add-one, pow-suc) (omega (arith, mul-le-mul h hb, suc
 
 pub small : (k : ℕ) → k ≤ 8 → 16 ^ k ≤ 4294967296
 small k h = pow-le-pow-right (omega arith) h
-
-pub one-more : (count left : ℕ) → left ≤ count → 0 < left → count - (left - 1) ≡ (count - left) + 1
-one-more count left h g = omega arith
-
-pub none-yet : (count : ℕ) → 0 < 16 ^ (count - count)
-none-yet count = let z : count - count ≡ 0 = omega arith in rw z (omega arith)
 
 -- a value with a digit more still fits
 pub room : (v b d k : ℕ) → v < 16 ^ k → k < 8 → b ≤ 16 → d < b → v * b + d < 4294967296

@@ -16,12 +16,12 @@ use Rattle.utf8.specs.Chars.{octets, encode, firstChar, charAt, chars, isStray,
 use Rattle.utf8.proofs.First.{ascii, charAt-in, charAt-ascii, chars-end, chars-ascii, chars-le, first-fits, there-chars}
 use Rattle.utf8.proofs.Append.{first-stray}
 use Rattle.utf8.proofs.Encoding.{first-coded}
-use Rattle.quotes.specs.declared.Given.the-variants.{Value, Bad}
-use Rattle.quotes.specs.declared.Escaped.{Escaped}
+use Rattle.errors.specs.Numbers.{OPEN-QUOTE}
 use Rattle.quotes.specs.declared.Quoted.{Quoted}
-use Rattle.quotes.specs.Escape.{escapeOf, bytesOf}
+use Rattle.quotes.specs.Answers.{character, noCharacter, Escape, bytesOf}
+use Rattle.quotes.specs.Escape.{escapeOf}
 use Rattle.quotes.specs.Body.{Body, ends, plain, escape, bodyFrom, body, placed, quotedAt}
-use Rattle.quotes.specs.Steps.{nothing, added, stopped}
+use Rattle.quotes.specs.Steps.{nothing, added, escapePiece, charPiece, plainPiece, stopped}
 use Rattle.quotes.proofs.Reading.{escape-rest, at-quote, at-lf, at-slash, at-plain}
 use Rattle.quotes.proofs.Bounds.{Fresh}
 use Rattle.quotes.proofs.Heads.{escape-bound, escape-widths}
@@ -57,7 +57,7 @@ joined-ends q p n end closed error r f e = rw (e, f, or-false (q .escaped), add-
 -- ---- one character more
 module _ (q : Quoted) (p : ℕ) (c : Char) (r : List Char) (b : Body) (fit : 2 * b .strays ≤ length (b .value)) where
   pub joined-plain : length (encode (c .code)) ≡ c .width + 2 * cond (isStray c) 1 0
-      → joined q (placed p (c ∷ r) (plain c b)) ≡ joined (added q 1 (c .code) (c .width) (cond (isStray c) 1 0) false) (placed (p + c .width) r b)
+      → joined q (placed p (c ∷ r) (plain c b)) ≡ joined (added q (charPiece c)) (placed (p + c .width) r b)
   unfolding added joined placed
   joined-plain e =
       let st : ℕ = cond (isStray c) 1 0 in
@@ -73,10 +73,10 @@ module _ (q : Quoted) (p : ℕ) (c : Char) (r : List Char) (b : Body) (fit : 2 *
 
 module _ (q : Quoted) (p : ℕ) (c : Char) (r : List Char) (n : ℕ) (b : Body) (fit : 2 * b .strays ≤ length (b .value)) where
   pub joined-escape : c .width ≡ 1 → widths (take n r) ≡ n → (code : ℕ) (byte : Bool)
-      → joined q (placed p (c ∷ r) (escape (suc n) (Value code byte) b)) ≡ joined (added q (n + 1) code (length (bytesOf (Value code byte))) 0 true) (placed (p + (n + 1)) (drop n r) b)
+      → joined q (placed p (c ∷ r) (escape (suc n) (character code byte) b)) ≡ joined (added q (escapePiece (n + 1) code byte)) (placed (p + (n + 1)) (drop n r) b)
   unfolding added joined placed
   joined-escape w e code byte =
-      let v = bytesOf (Value code byte) in
+      let v = bytesOf (character code byte) in
       let e1 : p + widths (take (suc n + b .len) (c ∷ r)) ≡ p + (n + 1) + widths (take (b .len) (drop n r)) =
       rw (suc-add n (b .len)) (omega (arith, widths-split n (b .len) r)) in
       let e2 : q .chars + (suc n + b .len) ≡ q .chars + (n + 1) + b .len = omega arith in
@@ -84,7 +84,7 @@ module _ (q : Quoted) (p : ℕ) (c : Char) (r : List Char) (n : ℕ) (b : Body) 
       let e4 : cond (eqb (q .count) 0) code (q .code) ≡ cond (eqb (q .count + 1) 0) (b .code) (cond (eqb (q .count) 0) code (q .code)) =
       rw (ne-eqb (q .count + 1) 0 (λ z. omega arith)) in
       let e5 : q .strays + b .strays ≡ q .strays + 0 + b .strays = omega arith in
-      let e6 : q .bytes + (length (escape (suc n) (Value code byte) b .value) - 2 * b .strays) ≡ q .bytes + length v + (length (b .value) - 2 * b .strays) =
+      let e6 : q .bytes + (length (escape (suc n) (character code byte) b .value) - 2 * b .strays) ≡ q .bytes + length v + (length (b .value) - 2 * b .strays) =
       omega (arith, length-append v (b .value)) in
       let e7 : q .escaped || true ≡ true = or-true (q .escaped) in
       λ i. record { end = e1 i; chars = e2 i; closed = b .closed; error = b .error; count = e3 i; code = e4 i; escaped = e7 i; strays = e5 i; bytes = e6 i }
@@ -101,53 +101,53 @@ stray-there s p h =
     (either (isStray f))
 
 -- an escape ends within the text
-pub escape-fits : (quote : ℕ) (s : List ℕ) (p : ℕ) (x : Escaped) → p < length s → x ≡ escapeOf quote (chars (drop (p + 1) s)) → p + (x .len + 1) ≤ length s
+pub escape-fits : (quote : ℕ) (s : List ℕ) (p : ℕ) (x : Escape) → p < length s → x ≡ escapeOf quote (chars (drop (p + 1) s)) → p + (x .len + 1) ≤ length s
 escape-fits quote s p x h e =
     let r = drop (p + 1) s in
     rw e (omega (arith, escape-bound quote (chars r), chars-le r, length-drop (p + 1) s))
 
 -- ---- one step at the place p
 module _ (quote : ℕ) (low : quote < 0x80) (s : List ℕ) (p : ℕ) (q : Quoted) where
-  pub step-end : Fresh q → length s ≤ p → stopped q p 0 false 8 ≡ joined q (quotedAt quote s p)
+  pub step-end : Fresh q → length s ≤ p → stopped q p 0 false OPEN-QUOTE ≡ joined q (quotedAt quote s p)
   unfolding bodyFrom
-  step-end f h = rw (chars-end s p h) (joined-ends q p 0 p false 8 [] f (add-zero p))
+  step-end f h = rw (chars-end s p h) (joined-ends q p 0 p false OPEN-QUOTE [] f (add-zero p))
 
   module _ (h : p < length s) where
     pub step-quote : Fresh q → getD s p 0 ≡ quote → stopped q (p + 1) 1 true 0 ≡ joined q (quotedAt quote s p)
     step-quote f e = rw (at-quote quote low s p h e, chars-ascii s p h (omega arith)) (joined-ends q p 1 (p + 1) true 0 _ f refl)
 
     module _ (no-quote : getD s p 0 ≡ quote → ⊥) where
-      pub step-lf : Fresh q → getD s p 0 ≡ 10 → stopped q p 0 false 8 ≡ joined q (quotedAt quote s p)
-      step-lf f e = rw (at-lf quote low s p h no-quote e) (joined-ends q p 0 p false 8 _ f (add-zero p))
+      pub step-lf : Fresh q → getD s p 0 ≡ 10 → stopped q p 0 false OPEN-QUOTE ≡ joined q (quotedAt quote s p)
+      step-lf f e = rw (at-lf quote low s p h no-quote e) (joined-ends q p 0 p false OPEN-QUOTE _ f (add-zero p))
 
       -- after a backslash
-      module _ (slash : getD s p 0 ≡ 92) (x : Escaped) (is : x ≡ escapeOf quote (chars (drop (p + 1) s))) where
+      module _ (slash : getD s p 0 ≡ 92) (x : Escape) (is : x ≡ escapeOf quote (chars (drop (p + 1) s))) where
         first-is : chars (drop p s) ≡ ascii (getD s p 0) ∷ chars (drop (p + 1) s)
         first-is = chars-ascii s p h (omega arith)
 
         widths-are : widths (take (x .len) (chars (drop (p + 1) s))) ≡ x .len
         widths-are = rw is (escape-widths quote s (p + 1) low)
 
-        pub step-bad : (error : ℕ) → Fresh q → x .given ≡ Bad error → stopped q (p + (x .len + 1)) (x .len + 1) false error ≡ joined q (quotedAt quote s p)
+        pub step-bad : (error : ℕ) → Fresh q → x .meaning ≡ noCharacter error → stopped q (p + (x .len + 1)) (x .len + 1) false error ≡ joined q (quotedAt quote s p)
         step-bad error f g =
             rw (at-slash quote low s p h no-quote slash x is, g, first-is, add-one (x .len))
             (joined-ends q p (suc (x .len)) (p + suc (x .len)) false error (ascii (getD s p 0) ∷ chars (drop (p + 1) s)) f (omega (arith, widths-are)))
 
-        pub step-escape : (code : ℕ) (byte : Bool) → x .given ≡ Value code byte
-            → joined q (quotedAt quote s p) ≡ joined (added q (x .len + 1) code (length (bytesOf (Value code byte))) 0 true) (quotedAt quote s (p + (x .len + 1)))
+        pub step-escape : (code : ℕ) (byte : Bool) → x .meaning ≡ character code byte
+            → joined q (quotedAt quote s p) ≡ joined (added q (escapePiece (x .len + 1) code byte)) (quotedAt quote s (p + (x .len + 1)))
         step-escape code byte g =
             rw (at-slash quote low s p h no-quote slash x is, g, first-is, ← escape-rest quote low s p x is)
             (joined-escape q p (ascii (getD s p 0)) (chars (drop (p + 1) s)) (x .len) _ (strays-fit quote _ 0) refl widths-are code byte)
 
       module _ (no-lf : getD s p 0 ≡ 10 → ⊥) (no-slash : getD s p 0 ≡ 92 → ⊥) where
         pub step-plain : (c : Char) → c ≡ charAt s p
-            → joined q (quotedAt quote s p) ≡ joined (added q 1 (c .code) (c .width) (cond (isStray c) 1 0) false) (quotedAt quote s (p + c .width))
+            → joined q (quotedAt quote s p) ≡ joined (added q (charPiece c)) (quotedAt quote s (p + c .width))
         step-plain c e =
             let r = chars (drop (p + c .width) s) in
             rw (at-plain quote low s p h no-quote no-lf no-slash c e, there-chars s p c h e)
             (joined-plain q p c r (body quote r) (strays-fit quote r 0) (rw (e ∙ charAt-in s p h) (stray-there s p h)))
 
         -- an ASCII byte is a character
-        pub step-ascii : getD s p 0 < 0x80 → joined q (quotedAt quote s p) ≡ joined (added q 1 (getD s p 0) 1 0 false) (quotedAt quote s (p + 1))
+        pub step-ascii : getD s p 0 < 0x80 → joined q (quotedAt quote s p) ≡ joined (added q (plainPiece 1 (getD s p 0))) (quotedAt quote s (p + 1))
         step-ascii l =
             rw (ne-eqb (getD s p 0) 0xFFFD (λ e. omega arith)) at (step-plain (ascii (getD s p 0)) (sym (charAt-ascii s p h l)))

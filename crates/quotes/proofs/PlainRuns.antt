@@ -14,7 +14,8 @@ use Rattle.basics.proofs.Choice.{either, cond-ind}
 use Rattle.basics.proofs.Lists.{drop-next}
 use Rattle.quotes.specs.declared.Quoted.{Quoted}
 use Rattle.quotes.specs.Body.{quotedAt}
-use Rattle.quotes.specs.Steps.{nothing, added, isPlain, plainLen, addedPlain, stopped}
+use Rattle.quotes.specs.Plain.{isPlain, plainLen}
+use Rattle.quotes.specs.Steps.{nothing, added, plainPiece, stopped}
 use Rattle.quotes.proofs.Places.{joined, joined-start, step-quote, step-ascii}
 
 -- ---- such a byte
@@ -55,35 +56,35 @@ module _ (quote : ℕ) where
       unfolding plainLen
       plain-stop e = rw (drop-next s p 0 h, e)
 
-    -- one that begins after a place
+    -- one that begins with the byte at a place, and ends at the place given
     module _ (end : ℕ) (is : end ≡ p + 1 + plainLen quote (drop (p + 1) s)) where
-      pub run-fits : p < length s → end ≤ length s
+      pub run-len : end - p ≡ suc (plainLen quote (drop (p + 1) s))
+      run-len = omega (arith, is)
+
+      pub run-some : (p ≤ end) × (1 ≤ end - p)
+      run-some = (omega (arith, is), omega (arith, is))
+
+      pub run-fits : p < length s → p + (end - p) ≤ length s
       run-fits h = omega (arith, is, plain-bound (drop (p + 1) s), length-drop (p + 1) s)
 
-      pub run-some : p < end
-      run-some = omega (arith, is)
-
 -- ---- n characters and one more are a step of n + 1
-one-more : (q : Quoted) (m code b : ℕ) → added (addedPlain q (suc m) code) 1 b 1 0 false ≡ addedPlain q (suc (suc m)) code
-unfolding added addedPlain
+one-more : (q : Quoted) (m code b : ℕ) → added (added q (plainPiece (suc m) code)) (plainPiece 1 b) ≡ added q (plainPiece (suc (suc m)) code)
+unfolding added
 one-more q m code b =
     let e1 : q .chars + suc m + 1 ≡ q .chars + suc (suc m) = omega arith in
     let e2 : q .count + suc m + 1 ≡ q .count + suc (suc m) = omega arith in
     let e3 : cond (eqb (q .count + suc m) 0) b (cond (eqb (q .count) 0) code (q .code)) ≡ cond (eqb (q .count) 0) code (q .code) = rw (ne-eqb (q .count + suc m) 0 (λ z. omega arith)) in
-    let e4 : q .bytes + suc m + 1 ≡ q .bytes + suc (suc m) = omega arith in
-    λ i. record { end = q .end; chars = e1 i; closed = q .closed; error = q .error; count = e2 i; code = e3 i; escaped = q .escaped; strays = add-zero (q .strays) i; bytes = e4 i }
-
-first-one : (q : Quoted) (code : ℕ) → added q 1 code 1 0 false ≡ addedPlain q 1 code
-unfolding added addedPlain
-first-one q code = rw (add-zero (q .strays))
+    let e4 : q .strays + 0 + 0 ≡ q .strays + 0 = omega arith in
+    let e5 : q .bytes + suc m + 1 ≡ q .bytes + suc (suc m) = omega arith in
+    λ i. record { end = q .end; chars = e1 i; closed = q .closed; error = q .error; count = e2 i; code = e3 i; escaped = q .escaped; strays = e4 i; bytes = e5 i }
 
 module _ (quote : ℕ) (low : quote < 0x80) (s : List ℕ) (q : Quoted) where
-  step-one : (p : ℕ) (x : Quoted) → p < length s → Plain quote (getD s p 0) → joined x (quotedAt quote s p) ≡ joined (added x 1 (getD s p 0) 1 0 false) (quotedAt quote s (p + 1))
+  step-one : (p : ℕ) (x : Quoted) → p < length s → Plain quote (getD s p 0) → joined x (quotedAt quote s p) ≡ joined (added x (plainPiece 1 (getD s p 0))) (quotedAt quote s (p + 1))
   step-one p x h f = step-ascii quote low s p x h (f .no-quote) (f .no-lf) (f .no-slash) (f .low)
 
   -- after a character, n more
   more : (code n p m : ℕ) → n ≡ plainLen quote (drop p s)
-      → joined (addedPlain q (suc m) code) (quotedAt quote s p) ≡ joined (addedPlain q (suc m + n) code) (quotedAt quote s (p + n))
+      → joined (added q (plainPiece (suc m) code)) (quotedAt quote s p) ≡ joined (added q (plainPiece (suc m + n) code)) (quotedAt quote s (p + n))
   more code zero p m e = rw (add-zero p, add-zero (suc m))
   more code (suc n) p m e =
       elim (decLt p (length s)) [
@@ -92,28 +93,26 @@ module _ (quote : ℕ) (low : quote < 0x80) (s : List ℕ) (q : Quoted) where
       ]
     where
       go : p < length s → (t : Bool) → isPlain quote (getD s p 0) ≡ t
-          → (n ≡ plainLen quote (drop (p + 1) s) → joined (addedPlain q (suc (suc m)) code) (quotedAt quote s (p + 1)) ≡ joined (addedPlain q (suc (suc m) + n) code) (quotedAt quote s (p + 1 + n)))
-          → joined (addedPlain q (suc m) code) (quotedAt quote s p) ≡ joined (addedPlain q (suc m + suc n) code) (quotedAt quote s (p + suc n))
+          → (n ≡ plainLen quote (drop (p + 1) s) → joined (added q (plainPiece (suc (suc m)) code)) (quotedAt quote s (p + 1)) ≡ joined (added q (plainPiece (suc (suc m) + n) code)) (quotedAt quote s (p + 1 + n)))
+          → joined (added q (plainPiece (suc m) code)) (quotedAt quote s p) ≡ joined (added q (plainPiece (suc m + suc n) code)) (quotedAt quote s (p + suc n))
       go h false f ih = absurd (omega (arith, plain-stop quote s p h f))
       go h true f ih =
           let place : p + suc n ≡ p + 1 + n = omega arith in
           let total : suc m + suc n ≡ suc (suc m) + n = omega arith in
           rw (place, total)
-          (step-one p (addedPlain q (suc m) code) h (plain-is quote (getD s p 0) f)
+          (step-one p (added q (plainPiece (suc m) code)) h (plain-is quote (getD s p 0) f)
           ∙ ap (λ x. joined x (quotedAt quote s (p + 1))) (one-more q m code (getD s p 0))
           ∙ ih (omega (arith, plain-next quote s p h f)))
 
   -- the run that begins at a place where such a byte stands
-  pub step-run : (p end : ℕ) → end ≡ p + 1 + plainLen quote (drop (p + 1) s)
+  pub step-run : (p n : ℕ) → n ≡ suc (plainLen quote (drop (p + 1) s))
       → p < length s → (getD s p 0 ≡ quote → ⊥) → (getD s p 0 ≡ 10 → ⊥) → (getD s p 0 ≡ 92 → ⊥) → getD s p 0 < 0x80
-      → joined q (quotedAt quote s p) ≡ joined (addedPlain q (end - p) (getD s p 0)) (quotedAt quote s end)
-  step-run p end is h no-quote no-lf no-slash l =
-      let n = plainLen quote (drop (p + 1) s) in
-      let total : end - p ≡ 1 + n = omega (arith, is) in
-      rw (total, is)
-      (step-ascii quote low s p q h no-quote no-lf no-slash l
-      ∙ ap (λ x. joined x (quotedAt quote s (p + 1))) (first-one q (getD s p 0))
-      ∙ more (getD s p 0) n (p + 1) 0 refl)
+      → joined q (quotedAt quote s p) ≡ joined (added q (plainPiece n (getD s p 0))) (quotedAt quote s (p + n))
+  step-run p n is h no-quote no-lf no-slash l =
+      let m = plainLen quote (drop (p + 1) s) in
+      let place : p + n ≡ p + 1 + m = omega (arith, is) in
+      let total : n ≡ suc 0 + m = omega (arith, is) in
+      rw (place, total) (step-ascii quote low s p q h no-quote no-lf no-slash l ∙ more (getD s p 0) m (p + 1) 0 refl)
 
 -- ---- a body of n such characters that is closed after them
 abbrev pub closedAt : ℕ → ℕ → ℕ → Quoted
@@ -127,19 +126,17 @@ module _ (quote : ℕ) (low : quote < 0x80) (s : List ℕ) (p : ℕ) where
 
   some-closed : (n : ℕ) → suc n ≡ plainLen quote (drop p s) → p + suc n < length s → getD s (p + suc n) 0 ≡ quote → isPlain quote (getD s p 0) ≡ true
       → closedAt p (suc n) (getD s p 0) ≡ quotedAt quote s p
-  unfolding stopped addedPlain
+  unfolding stopped added
   some-closed n e h f t =
       let b = getD s p 0 in
       let there : p < length s = omega arith in
-      let is : p + suc n ≡ p + 1 + plainLen quote (drop (p + 1) s) = omega (arith, e, plain-next quote s p there t) in
-      let total : p + suc n - p ≡ suc n = omega arith in
       let y = plain-is quote b t in
-      let run = step-run quote low s (nothing p) p (p + suc n) is there (y .no-quote) (y .no-lf) (y .no-slash) (y .low) in
+      let run = step-run quote low s (nothing p) p (suc n) (e ∙ plain-next quote s p there t) there (y .no-quote) (y .no-lf) (y .no-slash) (y .low) in
       let z : suc n ≡ 0 + suc n = omega arith in
       let fresh : cond (eqb (0 + suc n) 0) 0 b ≡ b = rw (ne-eqb (0 + suc n) 0 (λ e. omega arith)) in
       (λ i. record { end = p + suc n + 1; chars = z i + 1; closed = true; error = 0; count = z i; code = b; escaped = false; strays = 0; bytes = z i })
-      ∙ step-quote quote low s (p + suc n) (addedPlain (nothing p) (suc n) b) h fresh f
-      ∙ sym (rw total at run) ∙ sym (joined-start p (quotedAt quote s p))
+      ∙ step-quote quote low s (p + suc n) (added (nothing p) (plainPiece (suc n) b)) h fresh f
+      ∙ sym run ∙ sym (joined-start p (quotedAt quote s p))
 
   pub run-closed : (n : ℕ) → n ≡ plainLen quote (drop p s) → p + n < length s → getD s (p + n) 0 ≡ quote
       → closedAt p n (cond (eqb n 0) 0 (getD s p 0)) ≡ quotedAt quote s p

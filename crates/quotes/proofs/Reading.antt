@@ -13,11 +13,10 @@ use Rattle.utf8.specs.declared.Char.{Char}
 use Rattle.utf8.specs.Chars.{charAt, chars, widths}
 use Rattle.utf8.proofs.First.{charAt-in, chars-ascii, there-chars}
 use Rattle.utf8.proofs.Places.{code-there, place-chars}
+use Rattle.errors.specs.Numbers.{OPEN-QUOTE}
 use Rattle.digits.specs.Digit.{digitVal}
-use Rattle.quotes.specs.declared.Given.{Given}
-use Rattle.quotes.specs.declared.Given.the-variants.{Value, Bad}
-use Rattle.quotes.specs.declared.Escaped.{Escaped}
 use Rattle.quotes.specs.declared.numeral.Numeral.{Numeral}
+use Rattle.quotes.specs.Answers.{Meaning, character, noCharacter, Escape}
 use Rattle.quotes.specs.Numeral.{numeral}
 use Rattle.quotes.specs.Escape.{letter, following, byteOf, codeOf, octalEscape, hexEscape, escapeOf}
 use Rattle.quotes.specs.Body.{ends, plain, escape, bodyFrom, body}
@@ -25,10 +24,10 @@ use Rattle.quotes.proofs.Heads.{escape-widths}
 use Rattle.quotes.proofs.Bodies.{body-skip}
 
 -- ---- a byte that an escape gives is one
-abbrev Small : Given → Type 0
-Small (Value code true) = code ≤ 255
-Small (Value code false) = Unit {0}
-Small (Bad error) = Unit {0}
+abbrev Small : Meaning → Type 0
+Small (character code true) = code ≤ 255
+Small (character code false) = Unit {0}
+Small (noCharacter error) = Unit {0}
 
 byte-small : (n : Numeral) → Small (byteOf n)
 unfolding byteOf
@@ -41,8 +40,8 @@ code-small n =
     cond-ind Small (eqb (n .error) 0) _ _
     (λ _. cond-ind Small (ltb 0x10FFFF (n .value)) _ _ (λ _. tt) (λ _. cond-ind Small (between 0xD800 (n .value) 0xDFFF) _ _ (λ _. tt) (λ _. tt))) (λ _. tt)
 
-abbrev SmallEscape : Escaped → Type 0
-SmallEscape x = Small (x .given)
+abbrev SmallEscape : Escape → Type 0
+SmallEscape x = Small (x .meaning)
 
 escape-small : (quote : ℕ) (r : List Char) → SmallEscape (escapeOf quote r)
 unfolding escapeOf octalEscape hexEscape
@@ -55,11 +54,11 @@ escape-small quote (c ∷ r) =
     (λ _. cond-ind Small (eqb (c .code) 120) _ _ (λ _. byte-small (numeral 16 (following (c .code)) 0 r)) (λ _. code-small (numeral 16 (following (c .code)) 0 r))))))
     (λ _. tt)
 
-pub escape-byte : (quote : ℕ) (r : List Char) (code : ℕ) → escapeOf quote r .given ≡ Value code true → code ≤ 255
+pub escape-byte : (quote : ℕ) (r : List Char) (code : ℕ) → escapeOf quote r .meaning ≡ character code true → code ≤ 255
 escape-byte quote r code e = subst Small e (escape-small quote r)
 
 -- ---- the characters after an escape are those at the place where it ends
-pub escape-rest : (quote : ℕ) → quote < 0x80 → (s : List ℕ) (p : ℕ) (x : Escaped) → x ≡ escapeOf quote (chars (drop (p + 1) s))
+pub escape-rest : (quote : ℕ) → quote < 0x80 → (s : List ℕ) (p : ℕ) (x : Escape) → x ≡ escapeOf quote (chars (drop (p + 1) s))
     → drop (x .len) (chars (drop (p + 1) s)) ≡ chars (drop (p + (x .len + 1)) s)
 escape-rest quote low s p x is =
     let r = chars (drop (p + 1) s) in
@@ -73,18 +72,18 @@ module _ (quote : ℕ) (low : quote < 0x80) (s : List ℕ) (p : ℕ) (h : p < le
   at-quote e = rw (chars-ascii s p h (omega arith), eq-eqb _ _ e)
 
   module _ (no-quote : getD s p 0 ≡ quote → ⊥) where
-    pub at-lf : getD s p 0 ≡ 10 → body quote (chars (drop p s)) ≡ ends 0 false 8
+    pub at-lf : getD s p 0 ≡ 10 → body quote (chars (drop p s)) ≡ ends 0 false OPEN-QUOTE
     unfolding bodyFrom
     at-lf e = rw (chars-ascii s p h (omega arith), ne-eqb _ _ no-quote, eq-eqb _ _ e)
 
     -- after a backslash the escape there, and then the body behind it
-    pub at-slash : getD s p 0 ≡ 92 → (x : Escaped) → x ≡ escapeOf quote (chars (drop (p + 1) s))
-        → body quote (chars (drop p s)) ≡ escape (suc (x .len)) (x .given) (body quote (chars (drop (p + (x .len + 1)) s)))
+    pub at-slash : getD s p 0 ≡ 92 → (x : Escape) → x ≡ escapeOf quote (chars (drop (p + 1) s))
+        → body quote (chars (drop p s)) ≡ escape (suc (x .len)) (x .meaning) (body quote (chars (drop (p + (x .len + 1)) s)))
     unfolding bodyFrom
     at-slash slash x is =
         let r = chars (drop (p + 1) s) in
         rw (chars-ascii s p h (omega arith), ne-eqb _ _ no-quote, slash, ← is)
-        (ap (escape (suc (x .len)) (x .given)) (body-skip quote (x .len) r ∙ ap (body quote) (escape-rest quote low s p x is)))
+        (ap (escape (suc (x .len)) (x .meaning)) (body-skip quote (x .len) r ∙ ap (body quote) (escape-rest quote low s p x is)))
 
     pub at-plain : (getD s p 0 ≡ 10 → ⊥) → (getD s p 0 ≡ 92 → ⊥) → (c : Char) → c ≡ charAt s p
         → body quote (chars (drop p s)) ≡ plain c (body quote (chars (drop (p + c .width) s)))

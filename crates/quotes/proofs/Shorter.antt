@@ -12,13 +12,12 @@ use Rattle.basics.proofs.Choice.{cond-ind, true-of}
 use Rattle.utf8.specs.declared.Char.{Char}
 use Rattle.utf8.specs.Chars.{octets, encode}
 use Rattle.digits.specs.Digit.{digitVal}
-use Rattle.quotes.specs.declared.Given.{Given}
-use Rattle.quotes.specs.declared.Escaped.{Escaped}
 use Rattle.quotes.specs.declared.numeral.Numeral.{Numeral}
+use Rattle.quotes.specs.Answers.{Meaning, Escape, bytesOf}
 use Rattle.quotes.specs.Numeral.{numeral}
-use Rattle.quotes.specs.Escape.{letters, letter, following, codeOf, octalEscape, hexEscape, escapeOf, bytesOf}
+use Rattle.quotes.specs.Escape.{letters, letter, following, codeOf, octalEscape, hexEscape, escapeOf}
 use Rattle.quotes.proofs.Bodies.{encode-most, byte-most}
-use Rattle.quotes.proofs.EscapeLaws.{lookup-ind}
+use Rattle.quotes.proofs.EscapeLaws.{entry-ind}
 
 -- digits without an error are as many as asked for
 numeral-whole : (base : ℕ) (r : List Char) (n v : ℕ) → numeral base n v r .error ≡ 0 → numeral base n v r .len ≡ n
@@ -46,17 +45,17 @@ encode-low c h = rw (lt-ltb c 0xD800 (omega arith), lt-ltb c 0x80 h) (lit≤ tt)
 
 letter-low : (c : ℕ) → letter c < 0x80
 unfolding letter
-letter-low c = lookup-ind (λ row. ltb (row .1) 0x80) (λ n. n < 0x80) c (lit< tt) (λ row low _. ltb-true (row .1) 0x80 (true-of _ low)) letters tt
+letter-low c = entry-ind (λ row. ltb (row .1) 0x80) (λ n. n < 0x80) c (lit< tt) (λ row low _. ltb-true (row .1) 0x80 (true-of _ low)) letters tt
 
-abbrev Shorter : Escaped → Type 0
-Shorter x = length (bytesOf (x .given)) ≤ x .len
+abbrev Shorter : Escape → Type 0
+Shorter x = length (bytesOf (x .meaning)) ≤ x .len
 
 code-short : (n : Numeral) (m : ℕ) → (n .error ≡ 0 → 4 ≤ m) → length (bytesOf (codeOf n)) ≤ m
 unfolding codeOf
 code-short n m f =
-    cond-ind (λ (g : Given). length (bytesOf g) ≤ m) (eqb (n .error) 0) _ _
-    (λ e. cond-ind (λ (g : Given). length (bytesOf g) ≤ m) (ltb 0x10FFFF (n .value)) _ _ (λ _. omega arith)
-    (λ _. cond-ind (λ (g : Given). length (bytesOf g) ≤ m) (between 0xD800 (n .value) 0xDFFF) _ _ (λ _. omega arith)
+    cond-ind (λ (g : Meaning). length (bytesOf g) ≤ m) (eqb (n .error) 0) _ _
+    (λ e. cond-ind (λ (g : Meaning). length (bytesOf g) ≤ m) (ltb 0x10FFFF (n .value)) _ _ (λ _. omega arith)
+    (λ _. cond-ind (λ (g : Meaning). length (bytesOf g) ≤ m) (between 0xD800 (n .value) 0xDFFF) _ _ (λ _. omega arith)
     (λ _. omega (arith, encode-most (n .value), f (eqb-true (n .error) 0 e)))))
     (λ _. omega arith)
 
@@ -65,7 +64,7 @@ unfolding hexEscape
 hex-shorter first r =
     let n = numeral 16 (following first) 0 r in
     cond-ind Shorter (eqb (following first) 0) _ _ (λ _. lit≤ tt)
-    (λ f. cond-ind (λ (g : Given). length (bytesOf g) ≤ suc (n .len)) (eqb first 120) _ _
+    (λ f. cond-ind (λ (g : Meaning). length (bytesOf g) ≤ suc (n .len)) (eqb first 120) _ _
     (λ _. omega (arith, byte-most n))
     (λ e. code-short n (suc (n .len)) (λ z. omega (arith, numeral-whole 16 r (following first) 0 z, following-code first e f))))
 

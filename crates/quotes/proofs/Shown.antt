@@ -19,8 +19,7 @@ use Rattle.utf8.specs.Chars.{firstChar, chars, isStray, widths, encode, encoded
 use Rattle.utf8.proofs.First.{chars-at, chars-end}
 use Rattle.utf8.proofs.Places.{place-fits}
 use Rattle.utf8.proofs.Encoding.{first-coded}
-use Rattle.quotes.specs.declared.Given.{Given}
-use Rattle.quotes.specs.declared.Given.the-variants.{Value, Bad}
+use Rattle.quotes.specs.Answers.{Meaning, character, noCharacter}
 use Rattle.quotes.specs.Escape.{escapeOf}
 use Rattle.quotes.specs.Body.{Body, escape, bodyFrom, body}
 use Rattle.quotes.proofs.Heads.{Heads, escape-heads}
@@ -38,9 +37,9 @@ pub record Plain (quote : ℕ) (r : List Char) (b : Body) : Type 0 where
   -- the closing quote stands after them, and is read
   pub closed : b .closed ≡ true → (b .len ≡ suc (b .count)) × Heads (λ c. c ≡ quote) 1 (drop (b .count) r)
 
-escape-plain : (quote : ℕ) (r : List Char) (n : ℕ) (g : Given) (b : Body) → escape n g b .escaped ≡ false → Plain quote r (escape n g b)
-escape-plain quote r n (Bad error) b h = record { value = refl; strays = refl; closed = λ e. absurd (false≢true e) }
-escape-plain quote r n (Value code byte) b h = absurd (true≢false h)
+escape-plain : (quote : ℕ) (r : List Char) (n : ℕ) (g : Meaning) (b : Body) → escape n g b .escaped ≡ false → Plain quote r (escape n g b)
+escape-plain quote r n (noCharacter error) b h = record { value = refl; strays = refl; closed = λ e. absurd (false≢true e) }
+escape-plain quote r n (character code byte) b h = absurd (true≢false h)
 
 pub body-plain : (quote : ℕ) (r : List Char) → body quote r .escaped ≡ false → Plain quote r (body quote r)
 unfolding bodyFrom
@@ -51,7 +50,7 @@ body-plain quote (c ∷ r) =
     (λ _. cond-ind (λ (b : Body). b .escaped ≡ false → Plain quote (c ∷ r) b) (eqb (c .code) 10) _ _
     (λ _ h. record { value = refl; strays = refl; closed = λ e. absurd (false≢true e) })
     (λ _. cond-ind (λ (b : Body). b .escaped ≡ false → Plain quote (c ∷ r) b) (eqb (c .code) 92) _ _
-    (λ _ h. escape-plain quote (c ∷ r) _ (escapeOf quote r .given) _ h)
+    (λ _ h. escape-plain quote (c ∷ r) _ (escapeOf quote r .meaning) _ h)
     (λ _ h.
     let i = body-plain quote r h in
     record {
@@ -69,10 +68,10 @@ low-none zero r h = refl
 low-none (suc n) [] h = absurd h
 low-none (suc n) (c ∷ r) h = rw (low-no-stray c (h .0)) (omega (arith, low-none n r (h .1)))
 
-escape-strays : (c : Char) (r : List Char) (n : ℕ) (g : Given) (b : Body) → c .code < 0x80 → straysIn (take n r) ≡ 0 → straysIn (take (n + b .len) r) ≡ b .strays
+escape-strays : (c : Char) (r : List Char) (n : ℕ) (g : Meaning) (b : Body) → c .code < 0x80 → straysIn (take n r) ≡ 0 → straysIn (take (n + b .len) r) ≡ b .strays
     → straysIn (take (escape (suc n) g b .len) (c ∷ r)) ≡ escape (suc n) g b .strays
-escape-strays c r n (Bad error) b l h k = rw (low-no-stray c l) (omega arith)
-escape-strays c r n (Value code byte) b l h k = rw (suc-add n (b .len), low-no-stray c l) (omega arith)
+escape-strays c r n (noCharacter error) b l h k = rw (low-no-stray c l) (omega arith)
+escape-strays c r n (character code byte) b l h k = rw (suc-add n (b .len), low-no-stray c l) (omega arith)
 
 module _ (quote : ℕ) (low : quote < 0x80) where
   from-strays : (r : List Char) (k : ℕ) → Heads (λ c. c < 0x80) k r → straysIn (take (k + bodyFrom quote k r .len) r) ≡ bodyFrom quote k r .strays
@@ -87,7 +86,7 @@ module _ (quote : ℕ) (low : quote < 0x80) where
       (cond-ind P (eqb (c .code) quote) _ _ (λ e. low-none 1 (c ∷ r) (omega (arith, eqb-true (c .code) quote e), tt))
       (λ _. cond-ind P (eqb (c .code) 10) _ _ (λ _. refl)
       (λ _. cond-ind P (eqb (c .code) 92) _ _
-      (λ e. escape-strays c r n (escapeOf quote r .given) (bodyFrom quote n r) (omega (arith, eqb-true (c .code) 92 e)) (low-none n r k) (from-strays r n k))
+      (λ e. escape-strays c r n (escapeOf quote r .meaning) (bodyFrom quote n r) (omega (arith, eqb-true (c .code) 92 e)) (low-none n r k) (from-strays r n k))
       (λ _. ap (λ m. cond (isStray c) 1 0 + m) (rw (zero-add (body quote r .len)) at (from-strays r 0 tt))))))
 
   pub body-strays : (r : List Char) → straysIn (take (body quote r .len) r) ≡ body quote r .strays

@@ -18,7 +18,8 @@ use Rattle.swar.proofs.Numbers.{Bytes}
 use Rattle.swar.proofs.Each.{Small, lanes-same, lanes-and}
 use Rattle.swar.proofs.Marks.{apart, aparts, marks, apart-small, aparts-each, Clears, apart-clears, both-clear, marks-found}
 use Rattle.swar.proofs.Runs as runs
-use Rattle.quotes.specs.Steps.{isPlain, plainLen, stopMark}
+use Rattle.quotes.specs.Plain.{isPlain, plainLen}
+use Rattle.quotes.specs.Steps.{stopMark}
 use Rattle.quotes.proofs.PlainRuns.{plain-next, plain-stop, plain-over}
 
 -- what the code computes: in one byte, a top bit that is set where the low bits are none of three

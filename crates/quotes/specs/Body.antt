@@ -1,15 +1,16 @@
 -- The body of a quoted literal, from after its opening quote.
 use Prim.Native.Nat.{ℕ, zero, suc, _+_, _*_, _-_}
+use Prim.Native.Char.{code}
 use mathlib.Core.Bool.{Bool, true, false, cond}
 use mathlib.Core.List.{List, [], _∷_, _++_}
 use lib.Dec.{eqb}
 use lib.ListN.{length, take, drop}
 use Rattle.utf8.specs.declared.Char.{Char}
 use Rattle.utf8.specs.Chars.{chars, widths, isStray, encode}
-use Rattle.quotes.specs.declared.Given.{Given}
-use Rattle.quotes.specs.declared.Given.the-variants.{Value, Bad}
+use Rattle.errors.specs.Numbers.{OPEN-QUOTE}
 use Rattle.quotes.specs.declared.Quoted.{Quoted}
-use Rattle.quotes.specs.Escape.{escapeOf, bytesOf}
+use Rattle.quotes.specs.Answers.{Meaning, character, noCharacter, bytesOf}
+use Rattle.quotes.specs.Escape.{escapeOf}
 
 pub record Body : Type 0 where
   -- how many characters are read, the closing quote included
@@ -45,28 +46,28 @@ plain c b =
       strays = cond (isStray c) 1 0 + b .strays;
     }
 
--- an escape of n characters before the rest; one that gives nothing ends the literal with its error
-abbrev pub escape : ℕ → Given → Body → Body
-escape n (Bad error) b = ends n false error
-escape n (Value code byte) b =
+-- an escape of n characters before the rest; one that gives no character ends the literal with its error
+abbrev pub escape : ℕ → Meaning → Body → Body
+escape n (noCharacter error) b = ends n false error
+escape n (character code byte) b =
     record {
       len = n + b .len;
       closed = b .closed;
       error = b .error;
       count = suc (b .count);
       code = code;
-      value = bytesOf (Value code byte) ++ b .value;
+      value = bytesOf (character code byte) ++ b .value;
       escaped = true;
       strays = b .strays;
     }
 
--- the body in a literal with the quote given, after k characters that belong to an escape; error 8 where an LF or the end stands in place of the closing quote
+-- the body in a literal with the quote given, after k characters that belong to an escape; an error where an LF or the end stands in place of the closing quote
 unfoldable pub bodyFrom : ℕ → ℕ → List Char → Body
-bodyFrom quote k [] = ends 0 false 8
+bodyFrom quote k [] = ends 0 false OPEN-QUOTE
 bodyFrom quote zero (c ∷ r) =
     cond (eqb (c .code) quote) (ends 1 true 0)
-    (cond (eqb (c .code) 10) (ends 0 false 8)
-    (cond (eqb (c .code) 92) (escape (suc (escapeOf quote r .len)) (escapeOf quote r .given) (bodyFrom quote (escapeOf quote r .len) r))
+    (cond (eqb (c .code) (code "\n")) (ends 0 false OPEN-QUOTE)
+    (cond (eqb (c .code) (code "\\")) (escape (suc (escapeOf quote r .len)) (escapeOf quote r .meaning) (bodyFrom quote (escapeOf quote r .len) r))
     (plain c (bodyFrom quote 0 r))))
 bodyFrom quote (suc k) (c ∷ r) = bodyFrom quote k r
 

@@ -4,6 +4,7 @@ use mathlib.Core.Bool.{cond}
 use mathlib.Core.List.{List, [], _∷_}
 use lib.Dec.{ltb}
 use Rattle.utf8.specs.declared.Char.{Char}
+use Rattle.errors.specs.Numbers.{CUT-ESCAPE, BAD-ESCAPE}
 use Rattle.digits.specs.Digit.{digitVal}
 use Rattle.quotes.specs.declared.numeral.Numeral.{Numeral}
 
@@ -15,9 +16,9 @@ stop value error = record { value = value; len = 0; error = error }
 abbrev pub more : Numeral → Numeral
 more n = record { value = n .value; len = suc (n .len); error = n .error }
 
--- exactly so many digits below the base, after digits of the value given: error 10 where the end cuts them, 11 where another character stands
+-- exactly so many digits below the base, after digits of the value given: an error where the end cuts them, and where another character stands
 unfoldable pub numeral : ℕ → ℕ → ℕ → List Char → Numeral
 numeral base zero value r = stop value 0
-numeral base (suc n) value [] = stop value 10
+numeral base (suc n) value [] = stop value CUT-ESCAPE
 numeral base (suc n) value (c ∷ r) =
-    cond (ltb (digitVal (c .code)) base) (more (numeral base n (value * base + digitVal (c .code)) r)) (stop value 11)
+    cond (ltb (digitVal (c .code)) base) (more (numeral base n (value * base + digitVal (c .code)) r)) (stop value BAD-ESCAPE)

@@ -1,58 +1,46 @@
--- The body of a quoted literal as it is read: what one character adds to it, and how it ends.
-use Prim.Native.Nat.{ℕ, suc, _+_}
-use mathlib.Core.Bool.{Bool, false, cond, _||_}
-use mathlib.Core.List.{List, [], _∷_}
-use lib.Dec.{eqb, ltb}
-use Rattle.quotes.specs.declared.Given.{Given}
-use Rattle.quotes.specs.declared.Given.the-variants.{Value, Bad}
+-- Steps of the code. No public contract cites this file.
+-- The body of a quoted literal as it is read: what a piece of it adds, and how it ends.
+use Prim.Native.Nat.{ℕ, _+_}
+use mathlib.Core.Bool.{Bool, true, false, cond, _||_}
+use lib.Dec.{eqb}
+use lib.ListN.{length}
+use Rattle.utf8.specs.declared.Char.{Char}
+use Rattle.utf8.specs.Chars.{isStray}
 use Rattle.quotes.specs.declared.Quoted.{Quoted}
+use Rattle.quotes.specs.declared.body.Piece.{Piece}
+use Rattle.quotes.specs.Answers.{Meaning, character, noCharacter, bytesOf}
+use Rattle.quotes.specs.Plain.{isPlain}
 
 -- before the first character
 abbrev pub nothing : ℕ → Quoted
 nothing at = record { end = at; chars = 0; closed = false; error = 0; count = 0; code = 0; escaped = false; strays = 0; bytes = 0 }
 
--- one character more, written in n characters
-unfoldable pub added : Quoted → ℕ → ℕ → ℕ → ℕ → Bool → Quoted
-added q n code bytes strays escaped =
+-- one piece more
+unfoldable pub added : Quoted → Piece → Quoted
+added q x =
     record {
       end = q .end;
-      chars = q .chars + n;
+      chars = q .chars + x .chars;
       closed = q .closed;
       error = q .error;
-      count = q .count + 1;
-      code = cond (eqb (q .count) 0) code (q .code);
-      escaped = escaped || q .escaped;
-      strays = q .strays + strays;
-      bytes = q .bytes + bytes;
+      count = q .count + x .count;
+      code = cond (eqb (q .count) 0) (x .code) (q .code);
+      escaped = x .escaped || q .escaped;
+      strays = q .strays + x .strays;
+      bytes = q .bytes + x .bytes;
     }
 
--- is a byte an ASCII character that is written as itself?
-unfoldable pub isPlain : ℕ → ℕ → Bool
-isPlain quote b = cond (eqb b quote) false (cond (eqb b 10) false (cond (eqb b 92) false (ltb b 0x80)))
+-- an escape of n characters
+abbrev pub escapePiece : ℕ → ℕ → Bool → Piece
+escapePiece n code byte = record { chars = n; count = 1; code = code; escaped = true; strays = 0; bytes = length (bytesOf (character code byte)) }
 
--- how many such bytes a text begins with
-unfoldable pub plainLen : ℕ → List ℕ → ℕ
-plainLen quote [] = 0
-plainLen quote (b ∷ s) = cond (isPlain quote b) (suc (plainLen quote s)) 0
+-- a character that is written as itself
+abbrev pub charPiece : Char → Piece
+charPiece c = record { chars = 1; count = 1; code = c .code; escaped = false; strays = cond (isStray c) 1 0; bytes = c .width }
 
--- the mark of any other byte, for the search by eight bytes
-unfoldable pub stopMark : ℕ → ℕ → ℕ
-stopMark quote b = cond (isPlain quote b) 0 0x80
-
--- n of them more, by the code of the first
-unfoldable pub addedPlain : Quoted → ℕ → ℕ → Quoted
-addedPlain q n code =
-    record {
-      end = q .end;
-      chars = q .chars + n;
-      closed = q .closed;
-      error = q .error;
-      count = q .count + n;
-      code = cond (eqb (q .count) 0) code (q .code);
-      escaped = q .escaped;
-      strays = q .strays;
-      bytes = q .bytes + n;
-    }
+-- a run of n such characters of one byte, by the code of the first
+abbrev pub plainPiece : ℕ → ℕ → Piece
+plainPiece n code = record { chars = n; count = n; code = code; escaped = false; strays = 0; bytes = n }
 
 -- the end of the body, after n characters more
 unfoldable pub stopped : Quoted → ℕ → ℕ → Bool → ℕ → Quoted
@@ -69,7 +57,11 @@ stopped q end n closed error =
       bytes = q .bytes;
     }
 
--- the error of an escape; 0 where it gives something
-abbrev pub errorOf : Given → ℕ
-errorOf (Value code byte) = 0
-errorOf (Bad error) = error
+-- the error of an escape; 0 where it gives a character
+abbrev pub errorOf : Meaning → ℕ
+errorOf (character code byte) = 0
+errorOf (noCharacter error) = error
+
+-- the mark of a byte that is no plain character, for the search by eight bytes
+unfoldable pub stopMark : ℕ → ℕ → ℕ
+stopMark quote b = cond (isPlain quote b) 0 0x80

@@ -3,15 +3,27 @@ use crate::Given;
 use crate::Quoted;
 use crate::escapes::escape_at;
 ghost use mathlib.Core.Path.{_≡_};
-ghost use mathlib.Core.Bool.{cond};
 ghost use Prim.Native.Nat.{_+_, _<_, _≤_, _^_, min};
 ghost use lib.ListN.{length, drop};
 ghost use Rattle.swar.specs.Lanes.{lanes};
-ghost use Rattle.utf8.specs.Chars.{isStray};
-ghost use Rattle.quotes.specs.Escape.{bytesOf};
-ghost use Rattle.quotes.specs.declared.Given.the-variants.{Value};
+ghost use Rattle.quotes.specs.Answers.{meaningOf};
 ghost use Rattle.quotes.specs.Body.{quotedAt};
-ghost use Rattle.quotes.specs.Steps.{isPlain, plainLen, stopMark, nothing, added, addedPlain, stopped, errorOf};
+ghost use Rattle.quotes.specs.Literal.{doubleQuote, singleQuote};
+ghost use Rattle.quotes.specs.Plain.{isPlain, plainLen};
+ghost use Rattle.quotes.specs.Steps.{stopMark, nothing, added, stopped, errorOf, escapePiece, charPiece, plainPiece};
+
+// A piece of the body: an escape, a character, or a run of characters that are written as themselves.
+struct Piece {
+    // how many characters were read, how many the literal has by them, and the code of the first
+    chars: usize,
+    count: usize,
+    code: u32,
+    // is it an escape
+    escaped: bool,
+    // how many of the characters are stray bytes, and how many bytes the value has by them, each stray byte counted as one
+    strays: usize,
+    bytes: usize,
+}
 
 // Before the first character.
 fn nothing_read(at: usize) -> Quoted
@@ -30,41 +42,25 @@ fn nothing_read(at: usize) -> Quoted
     }
 }
 
-// One character more, written in n characters.
-fn add(q: Quoted, n: usize, code: u32, bytes: usize, strays: usize, escaped: bool) -> Quoted
-    requires { ⌜ (q .chars + n < 2 ^ 64) × (q .count + 1 < 2 ^ 64) × (q .strays + strays < 2 ^ 64) × (q .bytes + bytes < 2 ^ 64) ⌝ }
-    ensures { λ r. ⌜ r ≡ added q n code bytes strays escaped ⌝ }
+// One piece more.
+fn add(q: Quoted, x: Piece) -> Quoted
+    requires { ⌜ (q .chars + x .chars < 2 ^ 64) × (q .count + x .count < 2 ^ 64) × (q .strays + x .strays < 2 ^ 64) × (q .bytes + x .bytes < 2 ^ 64) ⌝ }
+    ensures { λ r. ⌜ r ≡ added q x ⌝ }
 {
-    let first = q.count == 0;
+    let chars = q.chars + x.chars;
+    let count = q.count + x.count;
+    let strays = q.strays + x.strays;
+    let bytes = q.bytes + x.bytes;
+    let code = if q.count == 0 { x.code } else { q.code };
+    let escaped = x.escaped | q.escaped;
     Quoted {
-        end: q.end,
-        chars: q.chars + n,
-        closed: q.closed,
-        error: q.error,
-        count: q.count + 1,
-        code: if first { code } else { q.code },
-        escaped: escaped || q.escaped,
-        strays: q.strays + strays,
-        bytes: q.bytes + bytes,
-    }
-}
-
-// n characters more that are written as themselves, each of one byte, by the code of the first.
-fn add_plain(q: Quoted, n: usize, code: u32) -> Quoted
-    requires { ⌜ (q .chars + n < 2 ^ 64) × (q .count + n < 2 ^ 64) × (q .bytes + n < 2 ^ 64) ⌝ }
-    ensures { λ r. ⌜ r ≡ addedPlain q n code ⌝ }
-{
-    let first = q.count == 0;
-    Quoted {
-        end: q.end,
-        chars: q.chars + n,
-        closed: q.closed,
-        error: q.error,
-        count: q.count + n,
-        code: if first { code } else { q.code },
-        escaped: q.escaped,
-        strays: q.strays,
-        bytes: q.bytes + n,
+        chars,
+        count,
+        code,
+        escaped,
+        strays,
+        bytes,
+        ..q
     }
 }
 
@@ -73,22 +69,19 @@ fn stop(q: Quoted, end: usize, n: usize, closed: bool, error: u8) -> Quoted
     requires { ⌜ q .chars + n < 2 ^ 64 ⌝ }
     ensures { λ r. ⌜ r ≡ stopped q end n closed error ⌝ }
 {
+    let chars = q.chars + n;
     Quoted {
         end,
-        chars: q.chars + n,
+        chars,
         closed,
         error,
-        count: q.count,
-        code: q.code,
-        escaped: q.escaped,
-        strays: q.strays,
-        bytes: q.bytes,
+        ..q
     }
 }
 
 // The error of an escape, 0 where it gives something.
 fn error_of(given: Given) -> u8
-    ensures { λ r. ⌜ r ≡ errorOf given ⌝ }
+    ensures { λ r. ⌜ r ≡ errorOf (meaningOf given) ⌝ }
 {
     match given {
         Given::Value { code: _, byte: _ } => 0,
@@ -96,18 +89,48 @@ fn error_of(given: Given) -> u8
     }
 }
 
-// How many bytes an escape gives to the value.
-fn given_len(code: u32, byte: bool) -> usize
-    ensures { λ r. ⌜ r ≡ length (bytesOf (Value code byte)) ⌝ }
+// An escape of n characters.
+fn escape_piece(n: usize, code: u32, byte: bool) -> Piece
+    ensures { λ r. ⌜ r ≡ escapePiece n code byte ⌝ }
 {
-    if byte { 1 } else { utf8::encoded_len(code) }
+    let bytes = if byte { 1 } else { utf8::encoded_len(code) };
+    Piece {
+        chars: n,
+        count: 1,
+        code,
+        escaped: true,
+        strays: 0,
+        bytes,
+    }
 }
 
-// Is a character a stray byte? 1 or 0.
-fn stray_count(c: utf8::Char) -> usize
-    ensures { λ r. ⌜ r ≡ cond (isStray c) 1 0 ⌝ }
+// A character that is written as itself.
+fn char_piece(c: utf8::Char) -> Piece
+    ensures { λ r. ⌜ r ≡ charPiece c ⌝ }
 {
-    if utf8::is_stray(c) { 1 } else { 0 }
+    let strays = if utf8::is_stray(c) { 1 } else { 0 };
+    Piece {
+        chars: 1,
+        count: 1,
+        code: c.code,
+        escaped: false,
+        strays,
+        bytes: c.width,
+    }
+}
+
+// A run of n such characters of one byte, by the first.
+fn plain_piece(n: usize, b: u8) -> Piece
+    ensures { λ r. ⌜ r ≡ plainPiece n b ⌝ }
+{
+    Piece {
+        chars: n,
+        count: n,
+        code: b as u32,
+        escaped: false,
+        strays: 0,
+        bytes: n,
+    }
 }
 
 // Is a byte an ASCII character that is written as itself?
@@ -117,10 +140,10 @@ fn is_plain(b: u8, quote: u8) -> bool
     if b == quote {
         return false;
     }
-    if b == 10 {
+    if b == b'\n' {
         return false;
     }
-    if b == 92 {
+    if b == b'\\' {
         return false;
     }
     b < 128
@@ -148,8 +171,8 @@ fn stops(w: u64, quote: u8) -> u64
 {
     let low = w & 0x7F7F_7F7F_7F7F_7F7F;
     let no_quote = (low ^ (quote as u64 * 0x0101_0101_0101_0101)) + 0x7F7F_7F7F_7F7F_7F7F;
-    let no_lf = (low ^ 0x0A0A_0A0A_0A0A_0A0A) + 0x7F7F_7F7F_7F7F_7F7F;
-    let no_slash = (low ^ 0x5C5C_5C5C_5C5C_5C5C) + 0x7F7F_7F7F_7F7F_7F7F;
+    let no_lf = (low ^ (b'\n' as u64 * 0x0101_0101_0101_0101)) + 0x7F7F_7F7F_7F7F_7F7F;
+    let no_slash = (low ^ (b'\\' as u64 * 0x0101_0101_0101_0101)) + 0x7F7F_7F7F_7F7F_7F7F;
     (!(no_lf & no_slash & no_quote) | w) & 0x8080_8080_8080_8080
 }
 
@@ -189,49 +212,48 @@ fn body_at(src: &[u8], at: usize, quote: u8) -> Quoted
         if b == quote {
             return stop(q, p + 1, 1, true, 0);
         }
-        if b == 10 {
-            return stop(q, p, 0, false, 8);
+        if b == b'\n' {
+            return stop(q, p, 0, false, errors::OPEN_QUOTE);
         }
-        if b == 92 {
+        if b == b'\\' {
             let e = escape_at(src, p + 1, quote);
             let n = e.len + 1;
             let given = e.given;
             let Given::Value { code, byte } = given else {
                 return stop(q, p + n, n, false, error_of(given));
             };
-            q = add(q, n, code, given_len(code, byte), 0, true);
+            q = add(q, escape_piece(n, code, byte));
             p += n;
         } else if b < 128 {
-            let end = plain_end(src, p + 1, quote);
-            q = add_plain(q, end - p, b as u32);
-            p = end;
+            let n = plain_end(src, p + 1, quote) - p;
+            q = add(q, plain_piece(n, b));
+            p += n;
         } else {
             let c = utf8::char_at(src, p);
-            let width = c.width;
-            q = add(q, 1, c.code, width, stray_count(c), false);
-            p += width;
+            q = add(q, char_piece(c));
+            p += c.width;
         }
     }
-    stop(q, p, 0, false, 8)
+    stop(q, p, 0, false, errors::OPEN_QUOTE)
 }
 
 // The body of a string, from a place after its opening quote.
 pub fn string_body(src: &[u8], at: usize) -> Quoted
-    ensures { λ r. ⌜ r ≡ quotedAt 34 (now (src .entry)) at ⌝ }
+    ensures { λ r. ⌜ r ≡ quotedAt doubleQuote (now (src .entry)) at ⌝ }
 {
-    body_at(src, at, 34)
+    body_at(src, at, b'"')
 }
 
 // The place of the first byte from a place on that is no plain character of a string: a quote, a backslash, a line feed, one above 127, or the end.
 pub fn plain_string(src: &[u8], at: usize) -> usize
-    ensures { λ r. ⌜ r ≡ at + plainLen 34 (drop at (now (src .entry))) ⌝ }
+    ensures { λ r. ⌜ r ≡ at + plainLen doubleQuote (drop at (now (src .entry))) ⌝ }
 {
-    plain_end(src, at, 34)
+    plain_end(src, at, b'"')
 }
 
 // The body of a character literal, from a place after its opening quote.
 pub fn char_body(src: &[u8], at: usize) -> Quoted
-    ensures { λ r. ⌜ r ≡ quotedAt 39 (now (src .entry)) at ⌝ }
+    ensures { λ r. ⌜ r ≡ quotedAt singleQuote (now (src .entry)) at ⌝ }
 {
-    body_at(src, at, 39)
+    body_at(src, at, b'\'')
 }

@@ -6,43 +6,47 @@ use crate::numeral::numeral_at;
 ghost use mathlib.Core.Path.{_≡_};
 ghost use lib.ListN.{drop};
 ghost use Rattle.utf8.specs.Chars.{chars};
-ghost use Rattle.quotes.specs.Escape.{letter, following, byteOf, codeOf, octalEscape, hexEscape, escapeOf};
+ghost use Rattle.quotes.specs.Answers.{meaningOf, says};
+ghost use Rattle.quotes.specs.Escape.{letter, following, byteOf, codeOf, unreadEscape, singleEscape, octalEscape, hexEscape, escapeOf};
 
-// The code that a letter, or a backslash, gives after a backslash; 0 for any other character.
-fn letter_code(c: u32) -> u32
-    ensures { λ r. ⌜ r ≡ letter c ⌝ }
+// The error of an escape whose value is above its range: none.
+const OVER_RANGE: u8 = 0;
+
+// The code that a letter, or a backslash, gives after a backslash; 0 for any other byte.
+fn letter_code(b: u8) -> u8
+    ensures { λ r. ⌜ r ≡ letter b ⌝ }
 {
-    match c {
-        97 => 7,
-        98 => 8,
-        102 => 12,
-        110 => 10,
-        114 => 13,
-        116 => 9,
-        118 => 11,
-        92 => 92,
+    match b {
+        b'a' => 0x07,
+        b'b' => 0x08,
+        b'f' => 0x0C,
+        b'n' => b'\n',
+        b'r' => b'\r',
+        b't' => b'\t',
+        b'v' => 0x0B,
+        b'\\' => b'\\',
         _ => 0,
     }
 }
 
 // What digits give that stand for a byte.
 fn byte_of(n: Numeral) -> Given
-    ensures { λ r. ⌜ r ≡ byteOf n ⌝ }
+    ensures { λ r. ⌜ meaningOf r ≡ byteOf n ⌝ }
 {
     let error = n.error;
     if error != 0 {
         return Given::Bad { error };
     }
     let code = n.value;
-    if 255 < code {
-        return Given::Bad { error: 0 };
+    if 0xFF < code {
+        return Given::Bad { error: OVER_RANGE };
     }
     Given::Value { code, byte: true }
 }
 
 // What digits give that stand for a code.
 fn code_of(n: Numeral) -> Given
-    ensures { λ r. ⌜ r ≡ codeOf n ⌝ }
+    ensures { λ r. ⌜ meaningOf r ≡ codeOf n ⌝ }
 {
     let error = n.error;
     if error != 0 {
@@ -50,43 +54,52 @@ fn code_of(n: Numeral) -> Given
     }
     let code = n.value;
     if 0x10FFFF < code {
-        return Given::Bad { error: 0 };
+        return Given::Bad { error: OVER_RANGE };
     }
     if code < 0xD800 {
         return Given::Value { code, byte: false };
     }
     if code < 0xE000 {
-        return Given::Bad { error: 12 };
+        return Given::Bad {
+            error: errors::NO_CODE_POINT,
+        };
     }
     Given::Value { code, byte: false }
 }
 
-// How many hexadecimal digits follow x, u or U; 0 for any other character.
-fn digits_after(c: u32) -> usize
-    ensures { λ r. ⌜ r ≡ following c ⌝ }
+// How many hexadecimal digits follow x, u or U; 0 for any other byte.
+fn digits_after(b: u8) -> usize
+    ensures { λ r. ⌜ r ≡ following b ⌝ }
 {
-    match c {
-        120 => 2,
-        117 => 4,
-        85 => 8,
+    match b {
+        b'x' => 2,
+        b'u' => 4,
+        b'U' => 8,
         _ => 0,
     }
 }
 
-// The escape of hexadecimal digits, which stand at a place after its first character.
-fn hex_at(src: &[u8], at: usize, first: u32) -> Escaped
-    ensures { λ r. ⌜ r ≡ hexEscape first (chars (drop at (now (src .entry)))) ⌝ }
+// An escape that is not read, for an error.
+fn unread(error: u8) -> Escaped
+    ensures { λ r. ⌜ says r ≡ unreadEscape error ⌝ }
+{
+    Escaped {
+        len: 0,
+        given: Given::Bad { error },
+    }
+}
+
+// The escape of hexadecimal digits, which stand at a place after its first byte.
+fn hex_at(src: &[u8], at: usize, first: u8) -> Escaped
+    ensures { λ r. ⌜ says r ≡ hexEscape first (chars (drop at (now (src .entry)))) ⌝ }
 {
     let count = digits_after(first);
     if count == 0 {
-        return Escaped {
-            len: 0,
-            given: Given::Bad { error: 9 },
-        };
+        return unread(errors::UNKNOWN_ESCAPE);
     }
     let n = numeral_at(src, at, 16, count);
     let len = n.len + 1;
-    if first == 120 {
+    if first == b'x' {
         return Escaped {
             len,
             given: byte_of(n),
@@ -100,7 +113,7 @@ fn hex_at(src: &[u8], at: usize, first: u32) -> Escaped
 
 // The escape of three octal digits at a place.
 fn octal_at(src: &[u8], at: usize) -> Escaped
-    ensures { λ r. ⌜ r ≡ octalEscape (chars (drop at (now (src .entry)))) ⌝ }
+    ensures { λ r. ⌜ says r ≡ octalEscape (chars (drop at (now (src .entry)))) ⌝ }
 {
     let n = numeral_at(src, at, 8, 3);
     Escaped {
@@ -109,36 +122,34 @@ fn octal_at(src: &[u8], at: usize) -> Escaped
     }
 }
 
+// The escape of one character that gives a code.
+fn single(code: u32) -> Escaped
+    ensures { λ r. ⌜ says r ≡ singleEscape code ⌝ }
+{
+    Escaped {
+        len: 1,
+        given: Given::Value { code, byte: false },
+    }
+}
+
 // The escape at a place after a backslash.
 pub fn escape_at(src: &[u8], at: usize, quote: u8) -> Escaped
-    ensures { λ r. ⌜ r ≡ escapeOf quote (chars (drop at (now (src .entry)))) ⌝ }
+    ensures { λ r. ⌜ says r ≡ escapeOf quote (chars (drop at (now (src .entry)))) ⌝ }
 {
     if src.len() <= at {
-        return Escaped {
-            len: 0,
-            given: Given::Bad { error: 10 },
-        };
+        return unread(errors::CUT_ESCAPE);
+    }
+    let b = src[at];
+    let letter = letter_code(b);
+    if letter != 0 {
+        return single(letter as u32);
     }
     let c = utf8::char_at(src, at);
-    let first = c.code;
-    let code = letter_code(first);
-    if code != 0 {
-        return Escaped {
-            len: 1,
-            given: Given::Value { code, byte: false },
-        };
+    if c.code == quote as u32 {
+        return single(c.code);
     }
-    if first == quote as u32 {
-        return Escaped {
-            len: 1,
-            given: Given::Value {
-                code: first,
-                byte: false,
-            },
-        };
-    }
-    if digits::digit_val(src[at]) < 8 {
+    if digits::digit_val(b) < 8 {
         return octal_at(src, at);
     }
-    hex_at(src, at + c.width, first)
+    hex_at(src, at + c.width, b)
 }

@@ -17,32 +17,31 @@ pub(crate) fn numeral_at(src: &[u8], at: usize, base: u8, count: usize) -> Numer
     requires { ⌜ (base ≤ 16) × (count ≤ 8) ⌝ }
     ensures { λ r. ⌜ r ≡ numeral base count 0 (chars (drop at (now (src .entry)))) ⌝ }
 {
-    let mut p = at;
-    let mut left = count;
+    let mut len = 0;
     let mut value: u32 = 0;
-    while 0 < left {
+    while len < count {
+        let p = at + len;
         if src.len() <= p {
             return Numeral {
                 value,
-                len: p - at,
-                error: 10,
+                len,
+                error: errors::CUT_ESCAPE,
             };
         }
         let d = digits::digit_val(src[p]);
         if base <= d {
             return Numeral {
                 value,
-                len: p - at,
-                error: 11,
+                len,
+                error: errors::BAD_ESCAPE,
             };
         }
         value = value * base as u32 + d as u32;
-        p += 1;
-        left -= 1;
+        len += 1;
     }
     Numeral {
         value,
-        len: p - at,
+        len,
         error: 0,
     }
 }

@@ -10,7 +10,7 @@ use lib.ListN.{length, getD, length-append}
 use lib.Seq.{getD-at}
 use Rattle.utf8.specs.declared.Char.{Char}
 use Rattle.utf8.specs.Chars.{charOf, firstChar, charsFrom, chars, widths}
-use Rattle.utf8.specs.Bytes.{decoded}
+use Rattle.utf8.specs.Steps.{decoded}
 use Rattle.utf8.proofs.Bytes.{View, none, one, two, three, four, view}
 use Rattle.utf8.proofs.First.{first-is, first-least, first-fits}
 use Rattle.utf8.proofs.Ends.{Ends}

@@ -12,7 +12,7 @@ use lib.ListN.{length, getD, take, drop, set, length-drop}
 use lib.Seq.{sets, getD-drop, take-add, take-suc, drop-cons, length-take-le}
 use borrow.Author.Tests.{eqb-true, eqb-false, ltb-false, lt-ltb, eq-eqb, ne-eqb}
 use Rattle.utf8.specs.declared.Char.{Char}
-use Rattle.utf8.specs.Bytes.{decoded}
+use Rattle.utf8.specs.Steps.{decoded}
 use Rattle.utf8.specs.Chars.{ended, charOf, firstChar, chars, widths}
 use Rattle.utf8.proofs.Bytes.{View, none, one, two, three, four, view}
 use Rattle.utf8.proofs.First.{first-is, first-least, chars-at, chars-end, ascii, ascii-there}

@@ -10,7 +10,7 @@ use lib.Dec.{T, ltb, lit<, leb→le}
 use native.Mathlib.Decide.{decLe}
 use lib.ListN.{length, take, drop, getD, length-drop, drop-of-length-le}
 use lib.Pow.{pow-add, pow-mono, pow-pos, areBytes}
-use lib.Seq.{take-nil, take-take, getD-drop}
+use lib.Seq.{take-nil, take-take, getD-drop, drop-drop}
 use Rattle.basics.proofs.Choice.{and-left, and-right}
 use Rattle.swar.specs.Lanes.{numberOf}
 
@@ -60,31 +60,24 @@ number-last s at i h l m = elim (decLe at (length s)) [ yes k ↦ there k | no k
     past : (at ≤ length s → ⊥) → numberOf (drop i s) ≡ numberOf (drop at s)
     past k = rw (drop-of-length-le s {i = i} (omega arith), drop-of-length-le s {i = at} (omega arith))
 
-first-eight : (s : List ℕ)
-    → numberOf (take 8 s)
-    ≡ getD s 0 0 + getD s 1 0 * 0x100 + getD s 2 0 * 0x1_0000 + getD s 3 0 * 0x100_0000
-    + (getD s 4 0 + getD s 5 0 * 0x100 + getD s 6 0 * 0x1_0000 + getD s 7 0 * 0x100_0000) * 0x1_0000_0000
+first-four : (s : List ℕ) → numberOf (take 4 s) ≡ getD s 0 0 + getD s 1 0 * 0x100 + getD s 2 0 * 0x1_0000 + getD s 3 0 * 0x100_0000
 unfolding numberOf
-first-eight s =
-    omega (
-      arith,
-      number-next s 0 7,
-      number-next s 1 6,
-      number-next s 2 5,
-      number-next s 3 4,
-      number-next s 4 3,
-      number-next s 5 2,
-      number-next s 6 1,
-      number-next s 7 0,
-    )
+first-four s = omega (arith, number-next s 0 3, number-next s 1 2, number-next s 2 1, number-next s 3 0)
 
-pub number-eight : (s : List ℕ) (p : ℕ)
-    → numberOf (take 8 (drop p s))
-    ≡ getD s p 0 + getD s (p + 1) 0 * 0x100 + getD s (p + 2) 0 * 0x1_0000 + getD s (p + 3) 0 * 0x100_0000
-    + (getD s (p + 4) 0 + getD s (p + 5) 0 * 0x100 + getD s (p + 6) 0 * 0x1_0000 + getD s (p + 7) 0 * 0x100_0000) * 0x1_0000_0000
-number-eight s p =
+pub number-four : (s : List ℕ) (p : ℕ) → numberOf (take 4 (drop p s)) ≡ getD s p 0 + getD s (p + 1) 0 * 0x100 + getD s (p + 2) 0 * 0x1_0000 + getD s (p + 3) 0 * 0x100_0000
+number-four s p =
     let byte : (k : ℕ) → getD (drop p s) k 0 ≡ getD s (p + k) 0 = λ k. getD-drop p s k 0 in
-    rw (byte 0, byte 1, byte 2, byte 3, byte 4, byte 5, byte 6, byte 7, add-zero p) at (first-eight (drop p s))
+    rw (byte 0, byte 1, byte 2, byte 3, add-zero p) at (first-four (drop p s))
+
+-- eight bytes are two times four
+first-eight : (s : List ℕ) → numberOf (take 8 s) ≡ numberOf (take 4 s) + numberOf (take 4 (drop 4 s)) * 0x1_0000_0000
+first-eight s = omega (arith, number-next s 0 7, number-next s 1 6, number-next s 2 5, number-next s 3 4, first-four s)
+
+pub number-eight : (s : List ℕ) (p : ℕ) → numberOf (take 8 (drop p s)) ≡ numberOf (take 4 (drop p s)) + numberOf (take 4 (drop (p + 4) s)) * 0x1_0000_0000
+number-eight s p = rw (drop-drop 4 p s) at (first-eight (drop p s))
+
+pub four-fits : (s : List ℕ) (p : ℕ) → Bytes s → numberOf (take 4 (drop p s)) < 0x1_0000_0000
+four-fits s p h = omega (arith, number-four s p, h p, h (p + 1), h (p + 2), h (p + 3))
 
 pub byte-more : (n : ℕ) → 2 ^ (8 * suc n) ≡ 2 ^ (8 * n) * 256
 byte-more n = let e : 8 * suc n ≡ 8 * n + 8 = omega arith in rw e (pow-add 2 (8 * n) 8)

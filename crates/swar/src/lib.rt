@@ -6,10 +6,18 @@ ghost use lib.ListN.{length, take, drop};
 ghost use Rattle.swar.specs.Lanes.{numberOf};
 
 // The number that four bytes are.
-fn four(a: u8, b: u8, c: u8, d: u8) -> u64
+fn number_of(a: u8, b: u8, c: u8, d: u8) -> u64
     ensures { λ r. ⌜ r ≡ a + b * 0x100 + c * 0x1_0000 + d * 0x100_0000 ⌝ }
 {
     a as u64 + b as u64 * 0x100 + c as u64 * 0x1_0000 + d as u64 * 0x100_0000
+}
+
+// The number that the four bytes at a place are.
+fn four(s: &[u8], at: usize) -> u64
+    requires { ⌜ at + 4 ≤ length (now s) ⌝ }
+    ensures { λ r. ⌜ r ≡ numberOf (take 4 (drop at (now (s .entry)))) ⌝ }
+{
+    number_of(s[at], s[at + 1], s[at + 2], s[at + 3])
 }
 
 // The number that the bytes from a place on are, where they are at most eight.
@@ -42,8 +50,8 @@ fn load(s: &[u8], at: usize) -> u64
     requires { ⌜ at + 8 ≤ length (now s) ⌝ }
     ensures { λ r. ⌜ r ≡ numberOf (take 8 (drop at (now (s .entry)))) ⌝ }
 {
-    let low = four(s[at], s[at + 1], s[at + 2], s[at + 3]);
-    let high = four(s[at + 4], s[at + 5], s[at + 6], s[at + 7]);
+    let low = four(s, at);
+    let high = four(s, at + 4);
     low + high * 0x1_0000_0000
 }
 

@@ -11,35 +11,34 @@ use borrow.Author.Tests.{ltb-true, ne-eqb}
 use Rattle.basics.proofs.Choice.{and-split}
 use Rattle.basics.proofs.Lists.{drop-next}
 use Rattle.utf8.specs.declared.Char.{Char}
-use Rattle.utf8.specs.declared.Checked.{Checked}
-use Rattle.utf8.specs.declared.Checked.the-variants.{Valid, Bad}
-use Rattle.utf8.specs.Chars.{charAt, chars, isStray, noStray, bytesBefore, checked}
-use Rattle.utf8.specs.Bytes.{allAscii}
+use Rattle.utf8.specs.Chars.{charAt, chars, isStray, noStray, bytesBefore}
+use Rattle.utf8.specs.Answers.{Checking, valid, notUtf8, checkedOf}
+use Rattle.utf8.specs.Steps.{allAscii}
 use Rattle.utf8.proofs.First.{there-chars, ascii, chars-ascii, chars-end}
 
 -- the answer of a text whose first `count` characters, in `at` bytes, are well formed, and whose others are cs
-abbrev pub checkedFrom : ℕ → ℕ → List Char → Checked
-checkedFrom count at cs = cond (noStray cs) (Valid (count + length cs)) (Bad (at + bytesBefore cs))
+abbrev pub checkedFrom : ℕ → ℕ → List Char → Checking
+checkedFrom count at cs = cond (noStray cs) (valid (count + length cs)) (notUtf8 (at + bytesBefore cs))
 
-pub checked-start : (s : List ℕ) → checked s ≡ checkedFrom 0 0 (chars s)
+pub checked-start : (s : List ℕ) → checkedOf s ≡ checkedFrom 0 0 (chars s)
 checked-start s = simp zero-add
 
 next : (count at : ℕ) (c : Char) (cs : List Char) → isStray c ≡ false → checkedFrom count at (c ∷ cs) ≡ checkedFrom (count + 1) (at + c .width) cs
 next count at c cs e =
-    rw e (ap₂ (λ x y. cond (noStray cs) (Valid x) (Bad y)) (omega arith) (omega arith))
+    rw e (ap₂ (λ x y. cond (noStray cs) (valid x) (notUtf8 y)) (omega arith) (omega arith))
 
-bad : (count at : ℕ) (c : Char) (cs : List Char) → isStray c ≡ true → checkedFrom count at (c ∷ cs) ≡ Bad at
-bad count at c cs e = rw e (ap Bad (add-zero at))
+bad : (count at : ℕ) (c : Char) (cs : List Char) → isStray c ≡ true → checkedFrom count at (c ∷ cs) ≡ notUtf8 at
+bad count at c cs e = rw e (ap notUtf8 (add-zero at))
 
 module _ (s : List ℕ) (p : ℕ) where
-  pub checked-end : (count : ℕ) → length s ≤ p → checkedFrom count p (chars (drop p s)) ≡ Valid count
-  checked-end count h = ap (checkedFrom count p) (chars-end s p h) ∙ ap Valid (add-zero count)
+  pub checked-end : (count : ℕ) → length s ≤ p → checkedFrom count p (chars (drop p s)) ≡ valid count
+  checked-end count h = ap (checkedFrom count p) (chars-end s p h) ∙ ap valid (add-zero count)
 
   module _ (c : Char) (h : p < length s) (e : c ≡ charAt s p) (count : ℕ) where
     pub checked-next : isStray c ≡ false → checkedFrom count p (chars (drop p s)) ≡ checkedFrom (count + 1) (p + c .width) (chars (drop (p + c .width) s))
     checked-next g = ap (checkedFrom count p) (there-chars s p c h e) ∙ next count p c (chars (drop (p + c .width) s)) g
 
-    pub checked-bad : isStray c ≡ true → checkedFrom count p (chars (drop p s)) ≡ Bad p
+    pub checked-bad : isStray c ≡ true → checkedFrom count p (chars (drop p s)) ≡ notUtf8 p
     checked-bad g = ap (checkedFrom count p) (there-chars s p c h e) ∙ bad count p c (chars (drop (p + c .width) s)) g
 
 -- n ASCII bytes are n characters

@@ -13,7 +13,7 @@ use borrow.Author.Tests.{not-true, ne-eqb}
 use Rattle.basics.proofs.Choice.{and-split, either}
 use Rattle.utf8.specs.declared.Char.{Char}
 use Rattle.utf8.specs.Chars.{stray, charOf, firstChar, charsFrom, chars, isStray, noStray, wellFormed, bytesBefore}
-use Rattle.utf8.specs.Bytes.{decoded}
+use Rattle.utf8.specs.Steps.{decoded}
 use Rattle.utf8.proofs.Bytes.{View, none, one, two, three, four, view, sequence-one, sequence-two, sequence-three, sequence-four}
 use Rattle.utf8.proofs.First.{first-is, first-least, first-fits}
 

@@ -9,7 +9,8 @@ use borrow.Author.Tests.{ltb-true, ltb-false, lt-ltb, le-ltb, le-leb, lt-leb, eq
 use Rattle.basics.specs.Between.{between}
 use Rattle.basics.proofs.Choice.{cond-ind, between-true}
 use Rattle.basics.proofs.Every.{every-below}
-use Rattle.utf8.specs.Bytes.{tail, announced, low, high, second, sequence}
+use Rattle.utf8.specs.Bytes.{announced}
+use Rattle.utf8.specs.Steps.{tail, low, high, second, sequence}
 
 -- the length by the count of leading ones
 abbrev pub byOnes : ℕ → ℕ

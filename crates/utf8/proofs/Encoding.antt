@@ -13,7 +13,7 @@ use borrow.Author.Tests.{lt-ltb, le-ltb}
 use Rattle.basics.proofs.Choice.{in-between}
 use Rattle.utf8.specs.declared.Char.{Char}
 use Rattle.utf8.specs.Chars.{charOf, firstChar, charsFrom, chars, isStray, noStray, wellFormed, octets, isScalar, encode, encoded}
-use Rattle.utf8.specs.Bytes.{decoded}
+use Rattle.utf8.specs.Steps.{decoded}
 use Rattle.utf8.proofs.Bytes.{View, none, one, two, three, four, view, sequence-one, sequence-two, sequence-three, sequence-four, low-least, high-most, low-e0, low-f0, high-ed, high-f4, low-fits, high-fits}
 use Rattle.utf8.proofs.First.{first-is, first-least, first-most, first-fits, drop-pred}
 use Rattle.utf8.proofs.Append.{noStray-split}

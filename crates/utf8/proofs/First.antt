@@ -12,7 +12,7 @@ use borrow.Author.Tests.{lt-ltb}
 use Rattle.basics.proofs.Lists.{reach}
 use Rattle.utf8.specs.declared.Char.{Char}
 use Rattle.utf8.specs.Chars.{charOf, firstChar, charAt, charsFrom, chars}
-use Rattle.utf8.specs.Bytes.{decoded}
+use Rattle.utf8.specs.Steps.{decoded}
 use Rattle.utf8.proofs.Bytes.{View, none, one, two, three, four, view, sequence-one, low-least, high-most, low-e0, low-f0}
 use Rattle.utf8.proofs.Rows.{table-says}
 

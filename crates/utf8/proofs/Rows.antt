@@ -14,7 +14,7 @@ use Rattle.utf8.proofs.Bytes.{View, none, one, two, three, four, view, 
 use Rattle.basics.specs.Between.{between}
 use Rattle.basics.proofs.Choice.{and-split, between-true, cond-ind, in-between}
 use Rattle.utf8.specs.Table.{Range, _to_, rows, fits, matched}
-use Rattle.utf8.specs.Bytes.{low, high, sequence}
+use Rattle.utf8.specs.Steps.{low, high, sequence}
 
 -- a byte within its bounds
 abbrev In : Range → ℕ → Type 0

@@ -1,8 +1,8 @@
 -- Worked examples, by computation.
 use mathlib.Core.Path.{_≡_, refl}
 use mathlib.Core.List.{[], _∷_}
-use Rattle.utf8.specs.declared.Checked.the-variants.{Valid, Bad}
-use Rattle.utf8.specs.Chars.{charsFrom, chars, firstChar, checked}
+use Rattle.utf8.specs.Chars.{charsFrom, chars, firstChar}
+use Rattle.utf8.specs.Answers.{valid, notUtf8, checkedOf}
 
 -- A, not identical to, Alpha, full stop (RFC 3629, section 7)
 rfc-1 : chars (0x41 ∷ 0xE2 ∷ 0x89 ∷ 0xA2 ∷ 0xCE ∷ 0x91 ∷ 0x2E ∷ [])
@@ -16,18 +16,18 @@ unfolding charsFrom firstChar
 rfc-4 = refl
 
 -- an overlong form, and a surrogate half
-overlong : checked (0x2F ∷ 0xC0 ∷ 0xAE ∷ []) ≡ Bad 1
+overlong : checkedOf (0x2F ∷ 0xC0 ∷ 0xAE ∷ []) ≡ notUtf8 1
 unfolding charsFrom firstChar
 overlong = refl
 
-half : checked (0x2F ∷ 0x2F ∷ 0xED ∷ 0xA0 ∷ 0x80 ∷ []) ≡ Bad 2
+half : checkedOf (0x2F ∷ 0x2F ∷ 0xED ∷ 0xA0 ∷ 0x80 ∷ []) ≡ notUtf8 2
 unfolding charsFrom firstChar
 half = refl
 
-cut : checked (0xC3 ∷ 0xA9 ∷ 0xE2 ∷ 0x82 ∷ []) ≡ Bad 2
+cut : checkedOf (0xC3 ∷ 0xA9 ∷ 0xE2 ∷ 0x82 ∷ []) ≡ notUtf8 2
 unfolding charsFrom firstChar
 cut = refl
 
-replacement : checked (0xEF ∷ 0xBF ∷ 0xBD ∷ []) ≡ Valid 1
+replacement : checkedOf (0xEF ∷ 0xBF ∷ 0xBD ∷ []) ≡ valid 1
 unfolding charsFrom firstChar
 replacement = refl

@@ -11,7 +11,7 @@ use lib.ListN.{length, getD}
 use borrow.Author.Tests.{lt-ltb, le-ltb}
 use Rattle.basics.proofs.Choice.{cond-ind, below-it, above-it}
 use Rattle.utf8.specs.Chars.{octets, encode}
-use Rattle.utf8.specs.Bytes.{digit, lead}
+use Rattle.utf8.specs.Steps.{digit, lead}
 use Rattle.utf8.proofs.Encoding.{encode-scalar, octets-two, octets-three, octets-four}
 
 pub encode-one : (n : ℕ) → n < 0x80 → encode n ≡ n ∷ []

@@ -6,8 +6,6 @@ use lib.Dec.{ltb, eqb}
 use lib.ListN.{length, getD, drop}
 use Rattle.basics.specs.Between.{between}
 use Rattle.utf8.specs.declared.Char.{Char}
-use Rattle.utf8.specs.declared.Checked.{Checked}
-use Rattle.utf8.specs.declared.Checked.the-variants.{Valid, Bad}
 use Rattle.utf8.specs.Table.{rows, matched}
 
 -- a byte that starts no well-formed character is read as U+FFFD
@@ -72,10 +70,6 @@ wellFormed s = noStray (chars s)
 abbrev pub bytesBefore : List Char → ℕ
 bytesBefore [] = 0
 bytesBefore (c ∷ cs) = cond (isStray c) 0 (c .width + bytesBefore cs)
-
--- of a well-formed text the number of its characters, of any other the place of the first byte that belongs to no well-formed character
-abbrev pub checked : List ℕ → Checked
-checked s = cond (wellFormed s) (Valid (length (chars s))) (Bad (bytesBefore (chars s)))
 
 -- the bytes of a character by its code (RFC 3629, section 3)
 unfoldable pub octets : ℕ → List ℕ

@@ -1,4 +1,6 @@
 pub mod Table
 pub mod Chars
+pub mod Answers
 pub mod Bytes
+pub mod Steps
 pub mod Count

@@ -2,7 +2,7 @@
 ghost use mathlib.Core.Path.{_≡_};
 ghost use lib.ListN.{length, getD};
 ghost use Rattle.utf8.specs.Chars.{encode};
-ghost use Rattle.utf8.specs.Bytes.{digit, lead};
+ghost use Rattle.utf8.specs.Steps.{digit, lead};
 
 // How many bytes a code is written in, 0 where it is no Unicode scalar value.
 pub fn encoded_len(code: u32) -> usize

@@ -4,7 +4,8 @@ mod encode;
 mod sequence;
 
 ghost use mathlib.Core.Path.{_≡_};
-ghost use Rattle.utf8.specs.Chars.{charAt, isStray, checked};
+ghost use Rattle.utf8.specs.Chars.{charAt, isStray};
+ghost use Rattle.utf8.specs.Answers.{says, checkedOf};
 pub use encode::encoded_byte;
 pub use encode::encoded_len;
 pub use sequence::byte;
@@ -31,10 +32,8 @@ pub fn char_at(s: &[u8], at: usize) -> Char
     }
     let a = s[at];
     if a < 0x80 {
-        return Char {
-            code: a as u32,
-            width: 1,
-        };
+        let code = a as u32;
+        return Char { code, width: 1 };
     }
     sequence::decode(
         a,
@@ -53,7 +52,7 @@ pub fn is_stray(c: Char) -> bool
 
 // Checks a text: blocks of ASCII at once, and what lies between them character by character.
 pub fn check(s: &[u8]) -> Checked
-    ensures { λ r. ⌜ r ≡ checked (now (s .entry)) ⌝ }
+    ensures { λ r. ⌜ says r ≡ checkedOf (now (s .entry)) ⌝ }
 {
     let mut at = 0;
     let mut count = 0;

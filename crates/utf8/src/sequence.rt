@@ -4,7 +4,8 @@ ghost use mathlib.Core.Path.{_≡_};
 ghost use mathlib.Core.Bool.{cond};
 ghost use lib.ListN.{getD};
 ghost use Rattle.basics.specs.Between.{between};
-ghost use Rattle.utf8.specs.Bytes.{announced, tail, low, high, second, sequence, decoded};
+ghost use Rattle.utf8.specs.Bytes.{announced};
+ghost use Rattle.utf8.specs.Steps.{tail, low, high, second, sequence, decoded};
 ghost use Rattle.utf8.specs.Chars.{codeOf};
 
 // The length that a first byte announces by its leading one bits, 0 where it announces none.

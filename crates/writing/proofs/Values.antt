@@ -14,8 +14,8 @@ use Rattle.utf8.proofs.First.{chars-end}
 use Rattle.quotes.proofs.Given.{enum}
 use Rattle.quotes.specs.declared.Given.{Given}
 use Rattle.quotes.specs.declared.Given.the-variants.{Value, Bad}
-use Rattle.quotes.specs.declared.Escaped.{Escaped}
-use Rattle.quotes.specs.Escape.{escapeOf, bytesOf}
+use Rattle.quotes.specs.Answers.{Meaning, character, noCharacter, Escape, meaningOf, bytesOf}
+use Rattle.quotes.specs.Escape.{escapeOf}
 use Rattle.quotes.specs.Body.{Body, escape, bodyFrom, body}
 use Rattle.quotes.proofs.Reading.{escape-byte, at-quote, at-lf, at-slash, at-plain}
 
@@ -27,13 +27,13 @@ abbrev pub valueAt : List ℕ → ℕ → List ℕ
 valueAt s p = body 34 (chars (drop p s)) .value
 
 -- an escape that gives nothing
-no-value : (n : ℕ) (g : Given) (b : Body) → OneOf (1 ∷ []) (tagOf (declared enum) g) → escape n g b .value ≡ []
+no-value : (n : ℕ) (g : Given) (b : Body) → OneOf (1 ∷ []) (tagOf (declared enum) g) → escape n (meaningOf g) b .value ≡ []
 no-value n (Value code byte) b k = absurd (omega arith)
 no-value n (Bad error) b k = refl
 
 -- one that gives a byte
-pub given-byte : (r : List Char) (x : Escaped) (code : ℕ) (byte : Bool) → x ≡ escapeOf 34 r → x .given ≡ Value code byte → byte ≡ true → code ≤ 255
-given-byte r x code byte is g t = escape-byte 34 r code (ap (λ y. y .given) (sym is) ∙ g ∙ ap (Value code) t)
+pub given-byte : (r : List Char) (x : Escape) (code : ℕ) (byte : Bool) → x ≡ escapeOf 34 r → x .meaning ≡ character code byte → byte ≡ true → code ≤ 255
+given-byte r x code byte is g t = escape-byte 34 r code (ap (λ y. y .meaning) (sym is) ∙ g ∙ ap (character code) t)
 
 module _ (s : List ℕ) (p : ℕ) where
   pub value-end : length s ≤ p → valueAt s p ≡ []
@@ -48,17 +48,17 @@ module _ (s : List ℕ) (p : ℕ) where
       pub value-lf : getD s p 0 ≡ 10 → valueAt s p ≡ []
       value-lf e = ap value-of (at-lf 34 (lit< tt) s p h no-quote e)
 
-      module _ (slash : getD s p 0 ≡ 92) (x : Escaped) (is : x ≡ escapeOf 34 (chars (drop (p + 1) s))) where
-        abbrev after-escape : Given → List ℕ
+      module _ (slash : getD s p 0 ≡ 92) (x : Escape) (is : x ≡ escapeOf 34 (chars (drop (p + 1) s))) where
+        abbrev after-escape : Meaning → List ℕ
         after-escape g = escape (suc (x .len)) g (body 34 (chars (drop (p + (x .len + 1)) s))) .value
 
-        value-slash : valueAt s p ≡ after-escape (x .given)
+        value-slash : valueAt s p ≡ after-escape (x .meaning)
         value-slash = ap value-of (at-slash 34 (lit< tt) s p h no-quote slash x is)
 
-        pub value-bad : OneOf (1 ∷ []) (tagOf (declared enum) (x .given)) → valueAt s p ≡ []
-        value-bad k = value-slash ∙ no-value (suc (x .len)) (x .given) _ k
+        pub value-bad : (g : Given) → x .meaning ≡ meaningOf g → OneOf (1 ∷ []) (tagOf (declared enum) g) → valueAt s p ≡ []
+        value-bad g is k = value-slash ∙ ap after-escape is ∙ no-value (suc (x .len)) g _ k
 
-        pub value-escape : (code : ℕ) (byte : Bool) → x .given ≡ Value code byte → valueAt s p ≡ bytesOf (Value code byte) ++ valueAt s (p + (x .len + 1))
+        pub value-escape : (code : ℕ) (byte : Bool) → x .meaning ≡ character code byte → valueAt s p ≡ bytesOf (character code byte) ++ valueAt s (p + (x .len + 1))
         value-escape code byte g = value-slash ∙ ap after-escape g
 
       pub value-plain : (getD s p 0 ≡ 10 → ⊥) → (getD s p 0 ≡ 92 → ⊥) → (c : Char) → c ≡ charAt s p → valueAt s p ≡ encode (c .code) ++ valueAt s (p + c .width)

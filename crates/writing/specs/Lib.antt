@@ -1,3 +1,4 @@
+pub mod Written
 pub mod Writes
 pub mod Text
 pub mod Spelled

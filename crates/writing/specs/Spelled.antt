@@ -1,5 +1,7 @@
+-- Steps of the code. No public contract cites this file.
 -- The text of a number byte by byte.
 use Prim.Native.Nat.{ℕ, _+_}
+use Prim.Native.Char.{code}
 use mathlib.Core.Bool.{cond}
 use mathlib.Core.List.{List, [], _∷_, _++_}
 use lib.Dec.{eqb}
@@ -7,12 +9,16 @@ use Rattle.numbers.specs.declared.Spelling.{Spelling}
 use Rattle.numbers.specs.declared.Spelling.the-variants.{AsRead, LowerPrefix, OctalPrefix, LowerExponent}
 use Rattle.numbers.specs.Spelling.{lower}
 
+-- an E as e
+abbrev pub lowerExponent : ℕ → ℕ
+lowerExponent b = cond (eqb b (code "E")) (code "e") b
+
 -- what the text has of a byte that was read after k others
 unfoldable pub spelled : Spelling → ℕ → ℕ → List ℕ
 spelled AsRead k b = b ∷ []
 spelled LowerPrefix k b = cond (eqb k 1) (lower b) b ∷ []
-spelled OctalPrefix k b = cond (eqb k 0) (b ∷ 111 ∷ []) (b ∷ [])
-spelled LowerExponent k b = cond (eqb b 69) 101 b ∷ []
+spelled OctalPrefix k b = cond (eqb k 0) (b ∷ code "o" ∷ []) (b ∷ [])
+spelled LowerExponent k b = lowerExponent b ∷ []
 
 -- the text of bytes that were read after k others
 unfoldable pub spelledFrom : Spelling → ℕ → List ℕ → List ℕ

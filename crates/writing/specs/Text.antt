@@ -1,3 +1,4 @@
+-- Steps of the code. No public contract cites this file.
 -- The text of characters, with or without CR: the two cases are `encoded` and `clean`.
 use mathlib.Core.Bool.{Bool, cond, not, _||_}
 use mathlib.Core.List.{List, [], _∷_, _++_}

@@ -1,3 +1,4 @@
+-- Steps of the code. No public contract cites this file.
 -- What a function that writes to an area does, and what it leaves to be written.
 use Prim.Native.Nat.{ℕ}
 use mathlib.Core.Path.{_≡_}

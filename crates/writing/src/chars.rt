@@ -2,11 +2,11 @@
 use crate::put::put;
 use crate::put::put_code;
 ghost use mathlib.Core.Path.{_≡_};
-ghost use mathlib.Core.List.{[], _∷_, _++_};
 ghost use lib.ListN.{take, drop};
 ghost use lib.Seq.{sets};
 ghost use Rattle.utf8.specs.Chars.{chars, encoded};
 ghost use Rattle.spans.specs.Body.{clean};
+ghost use Rattle.writing.specs.Written.{lineText};
 ghost use Rattle.writing.specs.Text.{text};
 ghost use Rattle.writing.specs.Writes.{Writes};
 
@@ -24,7 +24,8 @@ fn write_chars(src: &[u8], at: usize, count: usize, crs: bool, area: &mut [u8], 
         let c = utf8::char_at(src, p);
         p += c.width;
         left -= 1;
-        if crs | (c.code != 13) {
+        let is_cr = c.code == b'\r' as u32;
+        if crs | !is_cr {
             n = put_code(area, n, c.code);
         }
     }
@@ -47,8 +48,8 @@ pub fn write_clean(src: &[u8], at: usize, count: usize, area: &mut [u8], to: usi
 
 // The characters at a place without CR, and a line feed after them.
 pub fn write_line(src: &[u8], at: usize, count: usize, area: &mut [u8], to: usize)
-    ensures { λ r. ⌜ now (area .exit) ≡ sets (now (area .entry)) to (clean (take count (chars (drop at (now (src .entry))))) ++ (10 ∷ [])) ⌝ }
+    ensures { λ r. ⌜ now (area .exit) ≡ sets (now (area .entry)) to (lineText (take count (chars (drop at (now (src .entry)))))) ⌝ }
 {
     let n = write_chars(src, at, count, false, area, to);
-    put(area, n, 10);
+    put(area, n, b'\n');
 }

@@ -8,7 +8,7 @@ ghost use lib.ListN.{take, drop};
 ghost use lib.Seq.{sets};
 ghost use Rattle.numbers.specs.Spelling.{lower, numberText};
 ghost use Rattle.writing.specs.Writes.{Writes};
-ghost use Rattle.writing.specs.Spelled.{spelled};
+ghost use Rattle.writing.specs.Spelled.{lowerExponent, spelled};
 
 // A byte that was read after k others, in lower case where it is the second.
 fn lower_second(k: usize, b: u8) -> u8
@@ -17,17 +17,17 @@ fn lower_second(k: usize, b: u8) -> u8
     if k != 1 {
         return b;
     }
-    if b < 65 {
+    if b < b'A' {
         return b;
     }
-    if b <= 90 { b + 32 } else { b }
+    if b <= b'Z' { b + 32 } else { b }
 }
 
 // An E as e.
 fn lower_exponent(b: u8) -> u8
-    ensures { λ r. ⌜ r ≡ cond (eqb b 69) 101 b ⌝ }
+    ensures { λ r. ⌜ r ≡ lowerExponent b ⌝ }
 {
-    if b == 69 { 101 } else { b }
+    if b == b'E' { b'e' } else { b }
 }
 
 // Writes what the text has of a byte that was read after k others, and answers the place after it.
@@ -39,7 +39,7 @@ fn put_spelled(spelling: Spelling, k: usize, b: u8, area: &mut [u8], to: usize) 
         Spelling::LowerPrefix => put(area, to, lower_second(k, b)),
         Spelling::OctalPrefix => {
             let n = put(area, to, b);
-            if k == 0 { put(area, n, 111) } else { n }
+            if k == 0 { put(area, n, b'o') } else { n }
         }
         Spelling::LowerExponent => put(area, to, lower_exponent(b)),
     }

@@ -6,20 +6,19 @@ use quotes::Given;
 ghost use Prim.Native.Nat.{_≤_};
 ghost use mathlib.Core.Path.{_≡_};
 ghost use mathlib.Core.Bool.{true};
-ghost use lib.ListN.{take, drop};
+ghost use lib.ListN.{drop};
 ghost use lib.Seq.{sets};
 ghost use Rattle.utf8.specs.Chars.{chars};
-ghost use Rattle.spans.specs.Span.{toStop};
-ghost use Rattle.spans.specs.Body.{clean, rawInside};
-ghost use Rattle.quotes.specs.declared.Given.the-variants.{Value};
-ghost use Rattle.quotes.specs.Escape.{bytesOf};
+ghost use Rattle.quotes.specs.Answers.{character, bytesOf};
 ghost use Rattle.quotes.specs.Body.{body};
+ghost use Rattle.quotes.specs.Literal.{doubleQuote};
+ghost use Rattle.writing.specs.Written.{rawCount, rawValue};
 ghost use Rattle.writing.specs.Writes.{Writes};
 
 // Writes what an escape gives, and answers the place after it.
 fn put_given(code: u32, byte: bool, area: &mut [u8], to: usize) -> usize
     requires { ⌜ (byte ≡ true → code ≤ 255) ⌝ }
-    ensures { λ r. ⌜ Writes (now (area .entry)) to (bytesOf (Value code byte)) (now (area .exit)) r ⌝ }
+    ensures { λ r. ⌜ Writes (now (area .entry)) to (bytesOf (character code byte)) (now (area .exit)) r ⌝ }
 {
     if byte {
         put(area, to, code as u8)
@@ -30,20 +29,20 @@ fn put_given(code: u32, byte: bool, area: &mut [u8], to: usize) -> usize
 
 // The value of the string whose body stands at a place.
 pub fn write_interpreted(src: &[u8], at: usize, area: &mut [u8], to: usize)
-    ensures { λ r. ⌜ now (area .exit) ≡ sets (now (area .entry)) to (body 34 (chars (drop at (now (src .entry)))) .value) ⌝ }
+    ensures { λ r. ⌜ now (area .exit) ≡ sets (now (area .entry)) to (body doubleQuote (chars (drop at (now (src .entry)))) .value) ⌝ }
 {
     let mut p = at;
     let mut n = to;
     while p < src.len() {
         let b = src[p];
-        if b == 34 {
+        if b == b'"' {
             return;
         }
-        if b == 10 {
+        if b == b'\n' {
             return;
         }
-        if b == 92 {
-            let e = quotes::escape_at(src, p + 1, 34);
+        if b == b'\\' {
+            let e = quotes::escape_at(src, p + 1, b'"');
             let given = e.given;
             let Given::Value { code, byte } = given else {
                 return;
@@ -60,7 +59,7 @@ pub fn write_interpreted(src: &[u8], at: usize, area: &mut [u8], to: usize)
 
 // How many characters of the raw string whose body stands at a place belong to its value.
 fn raw_inside(src: &[u8], at: usize) -> usize
-    ensures { λ r. ⌜ r ≡ rawInside (toStop 96 (chars (drop at (now (src .entry))))) ⌝ }
+    ensures { λ r. ⌜ r ≡ rawCount (chars (drop at (now (src .entry)))) ⌝ }
 {
     let body = spans::raw_body(src, at);
     if body.closed {
@@ -72,7 +71,7 @@ fn raw_inside(src: &[u8], at: usize) -> usize
 
 // The value of the raw string whose body stands at a place.
 pub fn write_raw(src: &[u8], at: usize, area: &mut [u8], to: usize)
-    ensures { λ r. ⌜ now (area .exit) ≡ sets (now (area .entry)) to (clean (take (rawInside (toStop 96 (chars (drop at (now (src .entry)))))) (chars (drop at (now (src .entry)))))) ⌝ }
+    ensures { λ r. ⌜ now (area .exit) ≡ sets (now (area .entry)) to (rawValue (chars (drop at (now (src .entry))))) ⌝ }
 {
     write_clean(src, at, raw_inside(src, at), area, to);
 }

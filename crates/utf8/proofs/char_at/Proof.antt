@@ -15,8 +15,8 @@ returns c = simp (le-ltb _ _ (c .if1 .taken))
 shared-slice-read-a : tie.Need-shared-slice-read-a
 shared-slice-read-a c = search needs
 
-cast-t8 : tie.Need-cast-t8
-cast-t8 c = search needs
+cast-code : tie.Need-cast-code
+cast-code c = search needs
 
 returns-2 : tie.Need-returns-2
 returns-2 c =
@@ -56,7 +56,7 @@ char-at-spec =
     (tie.spec
     returns
     shared-slice-read-a
-    cast-t8
+    cast-code
     returns-2
     add-byte
     byte-requires

@@ -5,8 +5,9 @@ use mathlib.Core.Bool.{true}
 use native.Mathlib.Omega.{arith}
 use borrow.Author.Needs.{needs}
 use lib.ListN.{length, take, drop}
-use Rattle.utf8.specs.Chars.{chars, checked}
-use Rattle.utf8.specs.Bytes.{allAscii}
+use Rattle.utf8.specs.Chars.{chars}
+use Rattle.utf8.specs.Answers.{checkedOf}
+use Rattle.utf8.specs.Steps.{allAscii}
 use Rattle.utf8.proofs.First.{there-least, there-fits}
 use Rattle.utf8.proofs.AsciiBlock.{block-true}
 use Rattle.utf8.proofs.Answer.{checkedFrom, checked-start, checked-end, checked-next, checked-bad, checked-ascii}
@@ -14,7 +15,7 @@ use Rattle.utf8.proofs.check.Statement.{statement}
 use Rattle.utf8.proofs.check.Tie as tie
 
 abbrev Inv-loop : tie.InvT-loop
-Inv-loop s at₀ count₀ tried₀ at count tried = (at ≤ length s) × (count ≤ at) × (checked s ≡ checkedFrom count at (chars (drop at s)))
+Inv-loop s at₀ count₀ tried₀ at count tried = (at ≤ length s) × (count ≤ at) × (checkedOf s ≡ checkedFrom count at (chars (drop at s)))
 
 abbrev μ-loop : tie.MeasureT-loop
 μ-loop s at₀ count₀ tried₀ at count tried = length s - at

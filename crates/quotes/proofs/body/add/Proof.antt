@@ -1,29 +1,26 @@
--- `quotes::body::add` meets its contract: by whether it is the first character.
+-- `quotes::body::add` meets its contract: by whether a character was read before.
 use mathlib.Core.Logic.{⊎-elim}
 use Rattle.quotes.specs.Steps.{added}
 use borrow.Author.Needs.{needs}
+use borrow.Author.Tests.{eq-eqb, ne-eqb}
 use Rattle.quotes.proofs.body.add.Statement.{statement}
 use Rattle.quotes.proofs.body.add.Tie as tie
 
-add-t12 : tie.Need-add-t12
-add-t12 c = search needs
+add-chars : tie.Need-add-chars
+add-chars c = search needs
 
-add-t16 : tie.Need-add-t16
-add-t16 c = search needs
+add-count : tie.Need-add-count
+add-count c = search needs
 
-add-t24 : tie.Need-add-t24
-add-t24 c = search needs
+add-strays : tie.Need-add-strays
+add-strays c = search needs
 
-add-t27 : tie.Need-add-t27
-add-t27 c = search needs
+add-bytes : tie.Need-add-bytes
+add-bytes c = search needs
 
 returns : tie.Need-returns
 unfolding added
-returns c =
-    ⊎-elim
-    (λ w. ⊎-elim (λ v. rw (w .1, v .1, w .0 .taken, v .0 .taken)) (λ v. rw (w .1, v .1, w .0 .taken, v .0 .left)) (c .if2 .came))
-    (λ w. ⊎-elim (λ v. rw (w .1, v .1, w .0 .left, v .0 .taken)) (λ v. rw (w .1, v .1, w .0 .left, v .0 .left)) (c .if2 .came))
-    (c .before .if1 .came)
+returns c = ⊎-elim (λ w. rw (w .1, eq-eqb _ _ (w .0 .taken))) (λ w. rw (w .1, ne-eqb _ _ (w .0 .left))) (c .before .before .if1 .came)
 
 pub add-spec : {M : Type 1} → statement M
-add-spec = tie.close (tie.spec add-t12 add-t16 add-t24 add-t27 returns)
+add-spec = tie.close (tie.spec add-chars add-count add-strays add-bytes returns)

@@ -1,6 +1,6 @@
 -- `quotes::body::is_plain` meets its contract.
 use borrow.Author.Tests.{eq-eqb, ne-eqb}
-use Rattle.quotes.specs.Steps.{isPlain}
+use Rattle.quotes.specs.Plain.{isPlain}
 use Rattle.quotes.proofs.body.is_plain.Statement.{statement}
 use Rattle.quotes.proofs.body.is_plain.Tie as tie
 

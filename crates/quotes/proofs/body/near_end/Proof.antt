@@ -5,7 +5,7 @@ use native.Mathlib.Omega.{arith}
 use borrow.Author.Needs.{needs}
 use borrow.Author.Tests.{not-true, not-false}
 use lib.ListN.{length, drop}
-use Rattle.quotes.specs.Steps.{plainLen}
+use Rattle.quotes.specs.Plain.{plainLen}
 use Rattle.quotes.proofs.PlainRuns.{plain-over, plain-next, plain-stop}
 use Rattle.quotes.proofs.body.near_end.Statement.{statement}
 use Rattle.quotes.proofs.body.near_end.Tie as tie

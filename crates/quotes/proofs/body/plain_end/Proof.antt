@@ -4,7 +4,7 @@ use mathlib.Core.Path.{_≡_, refl, sym, _∙_}
 use native.Mathlib.Omega.{arith}
 use borrow.Author.Tests.{leb-true}
 use lib.ListN.{length, drop}
-use Rattle.quotes.specs.Steps.{plainLen}
+use Rattle.quotes.specs.Plain.{plainLen}
 use Rattle.quotes.proofs.Stops.{run-skip}
 use Rattle.quotes.proofs.body.plain_end.Statement.{statement}
 use Rattle.quotes.proofs.body.plain_end.Tie as tie

@@ -15,9 +15,12 @@ use Rattle.quotes.proofs.escapes.hex_at.Tie as tie
 digits-after-requires : tie.Need-digits-after-requires
 digits-after-requires c κs = search needs
 
+unread-requires : tie.Need-unread-requires
+unread-requires c κs = tt
+
 returns : tie.Need-returns
 unfolding hexEscape
-returns c = rw (eq-eqb _ _ (rw (c .before .digits-after .ensures) at (c .if1 .taken)))
+returns c = rw (eq-eqb _ _ (rw (c .before .before .digits-after .ensures) at (c .before .if1 .taken))) (c .unread .ensures)
 
 numeral-at-requires : tie.Need-numeral-at-requires
 numeral-at-requires c κs = (lit≤ tt, rw (c .before .digits-after .ensures) (following-most (c .before .before .before .args .first)))
@@ -51,6 +54,7 @@ hex-at-spec =
     tie.close
     (tie.spec
     digits-after-requires
+    unread-requires
     returns
     numeral-at-requires
     add-len

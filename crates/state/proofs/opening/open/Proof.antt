@@ -1,12 +1,11 @@
 -- `opening::open` meets its contract: each test of the code is one of the definition's.
 use Prim.Native.Nat.{_≤_}
-use mathlib.Core.Path.{_≡_, sym, _∙_}
+use mathlib.Core.Path.{_≡_, sym, ap, _∙_}
 use native.Mathlib.Omega.{arith}
 use lib.ListN.{length}
 use borrow.Author.Needs.{needs}
 use borrow.Author.Tests.{not-true, not-false}
-use Rattle.utf8.specs.declared.Checked.the-variants.{Valid}
-use Rattle.utf8.specs.Chars.{checked}
+use Rattle.utf8.specs.Answers.{valid, says, checkedOf}
 use Rattle.position.specs.Place.{inRange}
 use Rattle.state.specs.Fits.{fileOf}
 use Rattle.state.specs.State.{fresh}
@@ -37,13 +36,13 @@ new-requires : tie.Need-new-requires
 new-requires c κs = search needs
 
 -- the check found so many characters
-valid : (c : tie.After-checked2) → Valid (c .checked2 .given .0 .0) ≡ checked (c .before .before .before .before .before .before .args .src .now)
-valid c = sym (c .checked2 .given .1) ∙ c .before .before .check .ensures
+found : (c : tie.After-checked2) → valid (c .checked2 .given .0 .0) ≡ checkedOf (c .before .before .before .before .before .before .args .src .now)
+found c = ap says (sym (c .checked2 .given .1)) ∙ c .before .before .check .ensures
 
 returns-2 : tie.Need-returns-2
 returns-2 c =
     let v = c .before .before .before in
-    sym (open-small _ _ _ _ (short (v .before .before .before)) (valid v) (c .if2 .taken))
+    sym (open-small _ _ _ _ (short (v .before .before .before)) (found v) (c .if2 .taken))
 
 file-requires : tie.Need-file-requires
 file-requires c κs = search needs
@@ -59,20 +58,20 @@ place-of c = c .in-range .ensures ∙ rw (c .before .file .ensures, c .before .b
 returns-3 : tie.Need-returns-3
 returns-3 c =
     let v = c .before .before .before .before .before .before in
-    sym (open-unplaced _ _ _ _ (short (v .before .before .before)) (valid v) (sym (place-of (c .before)) ∙ not-true _ (c .if3 .taken)))
+    sym (open-unplaced _ _ _ _ (short (v .before .before .before)) (found v) (sym (place-of (c .before)) ∙ not-true _ (c .if3 .taken)))
 
 returns-4 : tie.Need-returns-4
 returns-4 c =
     let k = c .before in
     let v = k .before .before .before .before .before .before in
     sym
-    (open-full _ _ _ _ (short (v .before .before .before)) (valid v) (k .before .before .before .if2 .left) (sym (place-of (k .before)) ∙ not-false _ (k .if3 .left)) (c .if4 .taken))
+    (open-full _ _ _ _ (short (v .before .before .before)) (found v) (k .before .before .before .if2 .left) (sym (place-of (k .before)) ∙ not-false _ (k .if3 .left)) (c .if4 .taken))
 
 slice-write-table : tie.Need-slice-write-table
 slice-write-table c = search needs
 
 returns-5 : tie.Need-returns-5
-returns-5 c = sym (open-bad _ _ _ _ (short (c .before .before .before .before)) (sym (c .before .checked .given .1) ∙ c .before .before .before .check .ensures))
+returns-5 c = sym (open-bad _ _ _ _ (short (c .before .before .before .before)) (ap says (sym (c .before .checked .given .1)) ∙ c .before .before .before .check .ensures))
 
 same-length : tie.Need-same-length
 same-length c = search needs
@@ -83,7 +82,7 @@ returns-6 c =
     let v = k .before .before .before .before .before .before in
     rw (k .before .before .before .before .new .ensures)
     (sym
-    (open-ready _ _ _ _ (short (v .before .before .before)) (valid v) (k .before .before .before .if2 .left) (sym (place-of (k .before)) ∙ not-false _ (k .if3 .left)) (c .if4 .left)))
+    (open-ready _ _ _ _ (short (v .before .before .before)) (found v) (k .before .before .before .if2 .left) (sym (place-of (k .before)) ∙ not-false _ (k .if3 .left)) (c .if4 .left)))
 
 pub open-spec : {M : Type 1} → statement M
 open-spec =

@@ -6,7 +6,7 @@ use native.Mathlib.Omega.{arith}
 use borrow.Author.Needs.{needs}
 use lib.Dec.{ltb}
 use lib.ListN.{length, take, drop}
-use Rattle.utf8.specs.Bytes.{allAscii}
+use Rattle.utf8.specs.Steps.{allAscii}
 use Rattle.utf8.proofs.AsciiBlock.{ascii-greater, ascii-no-greater, block-short, block-there}
 use Rattle.utf8.proofs.ascii.is_block.Statement.{statement}
 use Rattle.utf8.proofs.ascii.is_block.Tie as tie

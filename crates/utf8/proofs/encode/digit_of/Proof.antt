@@ -1,6 +1,6 @@
 -- `utf8::encode::digit_of` meets its contract: each arm is a case of the definition.
 use borrow.Author.Tests.{ne-eqb}
-use Rattle.utf8.specs.Bytes.{digit}
+use Rattle.utf8.specs.Steps.{digit}
 use Rattle.utf8.proofs.encode.digit_of.Statement.{statement}
 use Rattle.utf8.proofs.encode.digit_of.Tie as tie
 

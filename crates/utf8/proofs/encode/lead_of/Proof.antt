@@ -1,6 +1,6 @@
 -- `utf8::encode::lead_of` meets its contract: each arm is a case of the definition.
 use borrow.Author.Tests.{ne-eqb}
-use Rattle.utf8.specs.Bytes.{lead}
+use Rattle.utf8.specs.Steps.{lead}
 use Rattle.utf8.proofs.encode.lead_of.Statement.{statement}
 use Rattle.utf8.proofs.encode.lead_of.Tie as tie
 

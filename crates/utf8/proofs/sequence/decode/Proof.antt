@@ -2,7 +2,7 @@ use mathlib.Core.Path.{_≡_}
 use borrow.Author.Tests.{ne-eqb}
 use Rattle.utf8.proofs.sequence.decode.Statement.{statement}
 use Rattle.utf8.proofs.sequence.decode.Tie as tie
-use Rattle.utf8.specs.Bytes.{sequence, decoded}
+use Rattle.utf8.specs.Steps.{sequence, decoded}
 
 sequence-of-requires : tie.Need-sequence-of-requires
 sequence-of-requires c κs = tt

@@ -2,7 +2,7 @@
 use borrow.Author.Tests.{eq-eqb, ne-eqb}
 use Rattle.utf8.proofs.sequence.high_of.Statement.{statement}
 use Rattle.utf8.proofs.sequence.high_of.Tie as tie
-use Rattle.utf8.specs.Bytes.{high}
+use Rattle.utf8.specs.Steps.{high}
 
 returns : tie.Need-returns
 unfolding high

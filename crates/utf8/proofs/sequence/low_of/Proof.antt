@@ -2,7 +2,7 @@
 use borrow.Author.Tests.{eq-eqb, ne-eqb}
 use Rattle.utf8.proofs.sequence.low_of.Statement.{statement}
 use Rattle.utf8.proofs.sequence.low_of.Tie as tie
-use Rattle.utf8.specs.Bytes.{low}
+use Rattle.utf8.specs.Steps.{low}
 
 returns : tie.Need-returns
 unfolding low

@@ -73,10 +73,11 @@ choose-requires-8 c κs = tt
 
 returns-4 : tie.Need-returns-4
 returns-4 c =
-    let x = c .before .before .before .before .before .before .before .before .before .before .before .before .before .args in
+    let k = c .before .before .before .before .before .before .before .before in
+    let x = k .before .before .before .before .before .args in
     c .choose8 .ensures ∙ picks (c .before .before .before .before .before .before .before .within2 .ensures) (c .before .choose7 .ensures ∙ picks (c .before .before .before .before .before .before .second-of2 .ensures)
     (c .before .before .choose6 .ensures ∙ picks (c .before .before .before .before .before .follows3 .ensures) (c .before .before .before .choose5 .ensures ∙ picks (c .before .before .before .before .follows4 .ensures) refl)))
-    ∙ sym (sequence-at-four (x .a) (x .b) (x .c) (x .d) (sym (c .before .before .before .before .before .before .before .before .before .before .before .before .sequence-len .ensures) ∙ c .before .before .before .before .before .before .before .before .if4 .taken))
+    ∙ sym (sequence-at-four (x .a) (x .b) (x .c) (x .d) (sym (k .before .before .before .before .sequence-len .ensures) ∙ k .if4 .taken))
 
 returns-5 : tie.Need-returns-5
 returns-5 c =

@@ -43,6 +43,9 @@ add-p c =
 sub-left : tie.Need-sub-left Inv-loop μ-loop
 sub-left c = c .before .before .before .loop-test .taken
 
+cast-is-cr : tie.Need-cast-is-cr Inv-loop μ-loop
+cast-is-cr c = search needs
+
 put-code-requires : tie.Need-put-code-requires Inv-loop μ-loop
 put-code-requires c κs = tt
 
@@ -51,10 +54,11 @@ loop-less c = search needs
 
 loop-again : tie.Need-loop-again Inv-loop μ-loop
 loop-again c =
-    let l = c .before .before .before .before .before .before .before .before .before .before in
+    let k = c .before .before .before .before .before .before .before in
+    let x = k .char-at in
+    let l = k .before .before .before in
     let a = l .before .before .before .args in
-    let x = c .before .before .before .before .before .before .before .char-at in
-    let e = text-kept (a .crs) (l .loop .left) (a .src .now) (l .loop .p) (x .result) (c .before .before .before .before .before .before .before .before .before .loop-test .taken) (c .before .before .before .before .before .before .before .before .if1 .left) (x .ensures) (c .before .before .before .before .if2 .taken) in
+    let e = text-kept (a .crs) (l .loop .left) (a .src .now) (l .loop .p) (x .result) (k .before .before .loop-test .taken) (k .before .if1 .left) (x .ensures) (c .before .before .before .before .if2 .taken) in
     let after = textAt (a .crs) (l .loop .left - 1) (a .src .now) (l .loop .p + x .result .width) in
     (search needs, λ rest. left-as-with-rest (l .loop .area) (l .loop .n) e (l .loop .inv .1) rest ∙ ap (sets (l .loop .area) (l .loop .n)) (append-assoc (encode (x .result .code)) after rest) ∙ c .before .before .put-code .ensures (after ++ rest))
 
@@ -89,6 +93,7 @@ write-chars-spec =
     char-at-requires
     add-p
     sub-left
+    cast-is-cr
     put-code-requires
     loop-less
     loop-again

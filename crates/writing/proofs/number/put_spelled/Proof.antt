@@ -62,8 +62,8 @@ same-length-3 c = search needs
 
 returns-3 : tie.Need-returns-3
 returns-3 c =
-    let a = c .before .before .before .before .before .before .before .before .before .before .before .before .args in
     let first = c .before .before .before .before .before .before .before in
+    let a = first .before .before .before .before .before .args in
     writes-as (a .area .now) (a .to) _ _ (byte-first (a .k) (a .b) (first .before .before .enum-told3 .given .1) (c .before .before .before .before .if1 .taken))
     (λ rest. first .put3 .ensures (111 ∷ rest) ∙ c .before .before .put4 .ensures rest)
 
