@@ -7,9 +7,8 @@
  * error list and text area are the caller's.
  *
  * Each function answers 0, or the number of a refusal; a refused call changes
- * nothing that it was lent, but for the place that refusal 1 carries and the
- * tokens that scanner_scan_many gives before it is refused. After 7, 8 or 9
- * call again with a larger copy of the table, the list or the area.
+ * nothing that it was lent, but for the place that refusal 1 carries. After 7,
+ * 8 or 9 call again with a larger copy of the table, the list or the area.
  *
  * Lengths count elements. No pointer may be NULL, not even where its length is
  * 0, and no two buffers of a call may overlap.
@@ -213,29 +212,31 @@ uint8_t scanner_scan(const uint8_t *src, size_t src_len, size_t *state, size_t s
  * given goes to `answer` (1 number); state and buffers are those that so many
  * calls of scanner_scan leave.
  *
- * It stops behind EOF, and behind a token whose text or value stands in the
- * area, since the next scan would write over it. It also stops at a scan that
- * is refused, and answers that refusal: the tokens before it are given, and the
- * state is the one behind them. So take the tokens first, and then see to the
- * refusal:
+ * It stops behind EOF, behind a token whose text or value stands in the area,
+ * since the next scan would write over it, and before a scan that would be
+ * refused. That scan is the first of the next call, which is then refused by
+ * its number. So a call gives one token or more, or it is refused, gives none
+ * and changes nothing:
  *
  *     size_t tokens[256 * SCANNER_TOKEN_LEN], count, i, kind = SCANNER_KIND_NONE;
  *     while (kind != SCANNER_KIND_EOF) {
  *         uint8_t refusal = scanner_scan_many(src, len, state, SCANNER_STATE_LEN, table, table_len,
  *                                             list, list_len, area, area_len,
  *                                             tokens, 256 * SCANNER_TOKEN_LEN, &count, 1);
+ *         if (refusal != SCANNER_OK) {
+ *             ... (7, 8, 9: enlarge the table, the list or the area, and call again; else give up)
+ *             continue;
+ *         }
  *         for (i = 0; i < count; i++) {
  *             const size_t *token = tokens + i * SCANNER_TOKEN_LEN;
  *             struct scanner_bytes text = scanner_text(token, src, area);
  *             kind = token[SCANNER_TOKEN_KIND];
  *             ...
  *         }
- *         if (refusal != SCANNER_OK)
- *             ... (7, 8, 9: enlarge the table, the list or the area; else give up)
  *     }
  *
- * Where `tokens` has not room for one, none is given and nothing refused. A
- * short state or no room for the answer is refused by 6, and nothing written.
+ * A state, an answer or `tokens` without room for a state, a number or a token
+ * is refused by 6.
  */
 uint8_t scanner_scan_many(const uint8_t *src, size_t src_len, size_t *state, size_t state_len,
                           size_t *table, size_t table_len, size_t *list, size_t list_len,
