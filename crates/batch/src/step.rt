@@ -38,7 +38,23 @@ fn ended(at: Reached) -> Reached
     }
 }
 
-// The blanks at a place, found where a token may be given behind them: it starts before the safe place, and there is room for the line start.
+// May a token be given behind these blanks? It starts before the safe place, and there is room for the line start.
+fn is_ready(blanks: Near, safe: usize, lines: usize, table: &[usize]) -> bool
+    ensures { λ r. ⌜ (r ≡ true → (blanks .found ≡ true) × (blanks .end < safe) × (blanks .lf ≡ true → lines < length (now (table .entry)))) ⌝ }
+{
+    if !blanks.found {
+        return false;
+    }
+    if safe <= blanks.end {
+        return false;
+    }
+    if blanks.lf {
+        return lines < table.len();
+    }
+    true
+}
+
+// The blanks at a place, found where a token may be given behind them.
 fn ready_blanks(src: &[u8], safe: usize, at: Reached, table: &[usize]) -> Near
     requires { ⌜ ((p : ℕ) → p < safe → p + 16 < length (now src)) ⌝ }
     ensures { λ r. ⌜ NearAt (now (src .entry)) (at .place) (at .mark) r
@@ -48,13 +64,8 @@ fn ready_blanks(src: &[u8], safe: usize, at: Reached, table: &[usize]) -> Near
         return no_blanks(at.place);
     }
     let blanks = near_blanks(src, at.place, at.mark);
-    if safe <= blanks.end {
+    if !is_ready(blanks, safe, at.lines, table) {
         return no_blanks(at.place);
-    }
-    if blanks.lf {
-        if table.len() <= at.lines {
-            return no_blanks(at.place);
-        }
     }
     blanks
 }

@@ -2,7 +2,7 @@
 use mathlib.Core.Path.{sym, _∙_}
 use mathlib.Core.Bool.{false≢true}
 use native.Mathlib.Omega.{arith}
-use borrow.Author.Needs.{needs}
+use borrow.Author.Tests.{not-false}
 use Rattle.batch.proofs.step.ready_blanks.Statement.{statement}
 use Rattle.batch.proofs.step.ready_blanks.Tie as tie
 
@@ -17,6 +17,9 @@ returns c =
 near-blanks-requires : tie.Need-near-blanks-requires
 near-blanks-requires c κs = omega (arith, c .before .before .before .before .pre _ (c .if1 .left))
 
+is-ready-requires : tie.Need-is-ready-requires
+is-ready-requires c κs = tt
+
 no-blanks-requires-2 : tie.Need-no-blanks-requires-2
 no-blanks-requires-2 c κs = tt
 
@@ -25,23 +28,10 @@ returns-2 c =
     let none = sym (c .no-blanks2 .ensures) in
     (λ e. absurd (false≢true (none ∙ e)), λ e. absurd (false≢true (none ∙ e)))
 
-no-blanks-requires-3 : tie.Need-no-blanks-requires-3
-no-blanks-requires-3 c κs = tt
-
 returns-3 : tie.Need-returns-3
 returns-3 c =
-    let none = sym (c .no-blanks3 .ensures) in
-    (λ e. absurd (false≢true (none ∙ e)), λ e. absurd (false≢true (none ∙ e)))
-
-returns-4 : tie.Need-returns-4
-returns-4 c =
-    let l = c .before .before .before in
-    (l .before .before .near-blanks .ensures, λ _. (l .if2 .left, λ _. c .if4 .left))
-
-returns-5 : tie.Need-returns-5
-returns-5 c =
-    let l = c .before in
-    (l .before .before .near-blanks .ensures, λ _. (l .if2 .left, λ e. absurd (false≢true (sym (c .if3 .left) ∙ e))))
+    let ready = c .before .is-ready .ensures (not-false _ (c .if2 .left)) in
+    (c .before .before .near-blanks .ensures, λ _. (ready .1, ready .2))
 
 pub ready-blanks-spec : {M : Type 1} → statement M
 ready-blanks-spec =
@@ -50,9 +40,7 @@ ready-blanks-spec =
     no-blanks-requires
     returns
     near-blanks-requires
+    is-ready-requires
     no-blanks-requires-2
     returns-2
-    no-blanks-requires-3
-    returns-3
-    returns-4
-    returns-5)
+    returns-3)
