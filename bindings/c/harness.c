@@ -304,20 +304,27 @@ static int is_last(const size_t *token)
            || token[SCANNER_TOKEN_KIND] == SCANNER_KIND_EOF;
 }
 
-/* Makes many scans one by one, each token in its place among `tokens`; how many were given. */
+/* One scan to a place among `tokens`. */
+static uint8_t scan_to(struct world *w, size_t *token)
+{
+    return scanner_scan(bytes_of(&w->src), len_of(&w->src), numbers_of(&w->state), len_of(&w->state),
+                        numbers_of(&w->table), len_of(&w->table), numbers_of(&w->list), len_of(&w->list),
+                        bytes_of(&w->area), len_of(&w->area), token, SCANNER_TOKEN_LEN);
+}
+
+/* Makes many scans one by one, each token in its place, up to a last one or before one that is refused; how many were given. */
 static uint8_t scan_each(struct world *w, size_t *given)
 {
     size_t room = len_of(&w->tokens) / SCANNER_TOKEN_LEN, *token = numbers_of(&w->tokens);
     uint8_t answer = SCANNER_OK;
     for (*given = 0; *given < room; token += SCANNER_TOKEN_LEN) {
-        answer = scanner_scan(bytes_of(&w->src), len_of(&w->src), numbers_of(&w->state), len_of(&w->state),
-                              numbers_of(&w->table), len_of(&w->table), numbers_of(&w->list), len_of(&w->list),
-                              bytes_of(&w->area), len_of(&w->area), token, SCANNER_TOKEN_LEN);
+        answer = scan_to(w, token);
         *given += answer == SCANNER_OK;
         if (answer != SCANNER_OK || is_last(token))
             break;
     }
-    return answer;
+    cut += *given > 0 && answer != SCANNER_OK;
+    return *given > 0 ? SCANNER_OK : answer;
 }
 
 /* Many scans in one call left what they leave one by one in a copy. */
@@ -326,13 +333,13 @@ static void check_many(struct world *w, struct world *copy, uint8_t answer)
     size_t given;
     int i;
     check(scan_each(copy, &given) == answer, "another answer than one by one");
-    numbers_of(&copy->answer)[0] = given;
+    if (answer == SCANNER_OK)
+        numbers_of(&copy->answer)[0] = given;
     for (i = 0; i < BUFFERS; i++) {
         const struct lent *b = buffer(w, i);
         check_guards(b);
         check(same(bytes_of(b), bytes_of(buffer(copy, i)), b->bytes), "another buffer than one by one");
     }
-    cut += given > 0 && answer != SCANNER_OK;
 }
 
 static uint8_t call_many(struct world *w)
@@ -346,12 +353,12 @@ static uint8_t call_many(struct world *w)
                                numbers_of(&w->answer), len_of(&w->answer));
     note(answer, "036789");
     batches += answer == SCANNER_OK;
-    if (len_of(&w->state) < SCANNER_STATE_LEN || len_of(&w->answer) < 1) {
+    if (len_of(&w->state) < SCANNER_STATE_LEN || len_of(&w->answer) < 1 || len_of(&w->tokens) < SCANNER_TOKEN_LEN)
         check(answer == SCANNER_DOES_NOT_FIT, "6 for a short slice");
-        check_refused(w, 0);
-    } else {
+    else
         check_many(w, &copy, answer);
-    }
+    if (answer != SCANNER_OK)
+        check_refused(w, 0);
     drop_all(&copy);
     return answer;
 }

@@ -219,29 +219,28 @@ uint8_t scanner_scan(const uint8_t *src, size_t src_len, size_t *state, size_t s
  * given goes to `answer` (1 number); state and buffers are those that so many
  * calls of scanner_scan leave.
  *
- * It stops behind EOF, and behind a token whose text or value stands in the
- * area, since the next scan would write over it. It also stops at a scan that
- * is refused, and answers that refusal: the tokens before it are given, and the
- * state is the one behind them. So take the tokens first, and then see to the
- * refusal:
+ * It stops behind EOF, behind a token whose text or value stands in the area,
+ * since the next scan would write over it, and before a scan that would be
+ * refused. That scan is the first of the next call, which is then refused by
+ * its number. So a call gives one token or more, or it is refused, gives none
+ * and changes nothing:
  *
  *     size_t tokens[256 * SCANNER_TOKEN_LEN], count, i, kind = SCANNER_KIND_NONE;
  *     while (kind != SCANNER_KIND_EOF) {
  *         uint8_t refusal = scanner_scan_many(src, len, state, SCANNER_STATE_LEN, table, table_len,
  *                                             list, list_len, area, area_len,
  *                                             tokens, 256 * SCANNER_TOKEN_LEN, &count, 1);
+ *         if (refusal != SCANNER_OK) {
+ *             ... (7, 8, 9: enlarge the table, the list or the area, and call again; else give up)
+ *             continue;
+ *         }
  *         for (i = 0; i < count; i++) {
  *             const size_t *token = tokens + i * SCANNER_TOKEN_LEN;
  *             struct scanner_bytes text = scanner_part(token + SCANNER_TOKEN_TEXT_IN_AREA, src, area);
  *             kind = token[SCANNER_TOKEN_KIND];
  *             ...
  *         }
- *         if (refusal != SCANNER_OK)
- *             ... (7, 8, 9: enlarge the table, the list or the area; else give up)
  *     }
- *
- * Where `tokens` has not room for one, none is given and nothing refused. A
- * short state or no room for the answer is refused by 6, and nothing written.
  */
 uint8_t scanner_scan_many(const uint8_t *src, size_t src_len, size_t *state, size_t state_len,
                           size_t *table, size_t table_len, size_t *list, size_t list_len,

@@ -386,22 +386,25 @@ static int is_last(const size_t *token)
            || token[SCANNER_TOKEN_KIND] == SCANNER_KIND_EOF;
 }
 
-/* Scans many, and in a copy as many one at a time: the same tokens, refusal, state and buffers. */
+/* Scans many, and in a copy as many one at a time: the same tokens, state and buffers, or the refusal of the first and nothing changed. */
 static uint8_t scan_beside(struct run *r, size_t room)
 {
-    struct run one = *r;
+    struct run one = *r, next;
     uint8_t refusal = scan_many(r, room);
     size_t count = r->answer[0], i;
-    part(count <= room / SCANNER_TOKEN_LEN, "no more tokens than there is room for");
+    if (refusal != SCANNER_OK) {
+        part(memcmp(&one, r, sizeof one) == 0, "a refusal that changes nothing");
+        part((room < SCANNER_TOKEN_LEN ? SCANNER_DOES_NOT_FIT : scan(&one)) == refusal, "the refusal of the first scan");
+        return refusal;
+    }
+    part(count > 0 && count <= room / SCANNER_TOKEN_LEN, "a token, and no more than there is room for");
     for (i = 0; i < count && i < room / SCANNER_TOKEN_LEN; i++) {
         part(scan(&one) == SCANNER_OK, "a token that one scan gives, too");
         part(i + 1 == count || !is_last(one.token), "no token behind one that is the last");
         memcpy(one.tokens + i * SCANNER_TOKEN_LEN, one.token, sizeof one.token);
     }
-    if (refusal != SCANNER_OK)
-        part(scan(&one) == refusal, "the refusal of the next scan");
-    else
-        part(count == room / SCANNER_TOKEN_LEN || is_last(one.token), "a stop where there is room");
+    next = one;
+    part(count == room / SCANNER_TOKEN_LEN || is_last(one.token) || scan(&next) != SCANNER_OK, "a stop where one more scan gives a token");
     memcpy(one.token, r->token, sizeof one.token);
     one.answer[0] = count;
     part(memcmp(&one, r, sizeof one) == 0, "what many scans leave is what as many scans leave");
@@ -416,8 +419,9 @@ static size_t read_beside(const char *text, size_t more, size_t room)
     prepare(&r, text, strlen(text));
     open_at(&r, 0, r.src_len + more);
     while (kind != SCANNER_KIND_EOF) {
-        part(scan_beside(&r, room) == SCANNER_OK && r.answer[0] > 0, "a batch");
-        if (r.answer[0] == 0)
+        uint8_t refusal = scan_beside(&r, room);
+        part(refusal == SCANNER_OK, "a batch");
+        if (refusal != SCANNER_OK)
             break;
         tokens += r.answer[0];
         kind = r.tokens[(r.answer[0] - 1) * SCANNER_TOKEN_LEN + SCANNER_TOKEN_KIND];
@@ -443,7 +447,7 @@ static void test_batches(void)
     }
     for (i = 0; i < SCANNER_TOKEN_LEN; i++) {
         start(&r, "x");
-        check(scan_beside(&r, i) == SCANNER_OK && r.answer[0] == 0, "none without room for one");
+        check(scan_beside(&r, i) == SCANNER_DOES_NOT_FIT, "6, no room for a token");
     }
 }
 
@@ -463,15 +467,13 @@ static void test_stops(void)
     check(scan_beside(&r, 2560) == SCANNER_OK && r.answer[0] == 3, "many go on behind one scan");
 }
 
-/* Many scans that are refused behind some tokens, and again with nothing changed. */
+/* Many scans that give some tokens and stop before one that is refused, again and again. */
 static void refuse_many(struct run *r, size_t count, uint8_t number, const char *what)
 {
-    struct run before;
-    check(scan_beside(r, 2560) == number && r->answer[0] == count, what);
-    before = *r;
-    before.answer[0] = 0;
-    check(scan_many(r, 2560) == number, "refused again");
-    check(memcmp(&before, r, sizeof before) == 0, "no token and the same state");
+    if (count > 0)
+        check(scan_beside(r, 2560) == SCANNER_OK && r->answer[0] == count, "the tokens before it");
+    check(scan_beside(r, 2560) == number, what);
+    check(scan_beside(r, 2560) == number, "refused again");
 }
 
 static void test_many_full(void)
@@ -507,10 +509,10 @@ static void test_many_states(void)
                             r.tokens, 2560, r.answer, 1) == SCANNER_DOES_NOT_FIT, "6, a short state");
     check(scanner_scan_many(r.src, r.src_len, r.state, SCANNER_STATE_LEN, r.table, 64, r.list, 64, r.area, 256,
                             r.tokens, 2560, r.answer, 0) == SCANNER_DOES_NOT_FIT, "6, no answer");
+    check(scan_many(&r, 9) == SCANNER_DOES_NOT_FIT, "6, no room for a token");
     check(memcmp(&before, &r, sizeof before) == 0, "short slices: nothing is written");
     r.state[SCANNER_STATE_PLACE] = 4;
     refuse_many(&r, 0, SCANNER_DOES_NOT_FIT, "6, a forged place");
-    check(scan_beside(&r, 9) == SCANNER_OK && r.answer[0] == 0, "no room: nothing refused");
     r.state[SCANNER_STATE_PLACE] = 0;
     r.state[SCANNER_STATE_ERRORS] = 17;
     refuse_many(&r, 0, SCANNER_DOES_NOT_FIT, "6, a forged error count");

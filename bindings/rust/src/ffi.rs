@@ -137,7 +137,7 @@ pub fn scan(
     }
 }
 
-/// Scans as many tokens as there is room for; the answer is the number of tokens given, those before a refusal, too.
+/// Scans as many tokens as there is room for, one at least, and answers how many were given; or it is refused and changes nothing.
 #[inline]
 pub fn scan_many(
     src: &[u8],

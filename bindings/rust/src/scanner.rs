@@ -96,8 +96,8 @@ impl<'src> Scanner<'src> {
 
     /// Scans up to [`Scanner::MAX_BATCH`] tokens in one call, which takes less time than a call for each, and lends
     /// them: an iterator, with one token at least. It ends behind EOF, and early behind a token whose text or value is
-    /// no part of the source, since the next one may need the same room. Behind EOF a batch is EOF alone, again and
-    /// again.
+    /// no part of the source, since the next one may need the same room, and before a token for which a buffer has to
+    /// grow. Behind EOF a batch is EOF alone, again and again.
     ///
     /// The scanner is then behind the last token of the batch, however many of them were looked at: the next scan or
     /// batch goes on there, [`Scanner::pos`] and its like tell of that token, and line count, lines of positions and
@@ -125,9 +125,8 @@ impl<'src> Scanner<'src> {
         }
         let mut given = 0;
         loop {
-            match self.call_many(&mut given)? {
+            match self.call_many(&mut given) {
                 0 => break,
-                // the tokens before a refusal show nothing from the area, so it may grow
                 number => self.buffers.grow(Refusal::of(number, 0))?,
             }
         }
@@ -228,14 +227,10 @@ impl<'src> Scanner<'src> {
         ffi::scan(self.source, &mut self.state, table, list, area, &mut self.token)
     }
 
-    /// One call for the tokens of a batch behind those that were given; counts the new ones, too.
-    fn call_many(&mut self, given: &mut usize) -> Result<u8, Refusal> {
+    /// One call for the tokens of a batch, and how many it gave.
+    fn call_many(&mut self, given: &mut usize) -> u8 {
         let Buffers { table, list, area, tokens, .. } = &mut self.buffers;
-        let room = tokens.get_mut(*given..).ok_or(Refusal::DoesNotFit)?;
-        let mut more = 0;
-        let number = ffi::scan_many(self.source, &mut self.state, table, list, area, room, &mut more);
-        *given = given.saturating_add(more);
-        Ok(number)
+        ffi::scan_many(self.source, &mut self.state, table, list, area, tokens, given)
     }
 
     /// Repeats a refused call with larger buffers.

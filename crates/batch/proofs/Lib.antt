@@ -7,3 +7,4 @@ pub mod DecimalTokens
 pub mod StringTokens
 pub mod SimpleScans
 pub mod Runs
+pub mod Rounds

@@ -3,12 +3,11 @@ use Prim.Native.Nat.{ℕ, _+_, _-_, _*_, _≤_, _<_, _^_}
 use mathlib.Core.Path.{_≡_, refl, sym, ap, subst, _∙_}
 use mathlib.Core.Bool.{Bool, true, false, cond, _&&_}
 use mathlib.Core.List.{List, []}
-use mathlib.Core.Logic.{inl, inr}
 use native.Mathlib.Omega.{arith}
 use borrow.Author.Tests.{leb-true}
 use lib.Dec.{leb}
-use lib.ListN.{length, drop, set}
-use lib.Seq.{sets, length-sets}
+use lib.ListN.{length, drop}
+use lib.Seq.{sets}
 use Rattle.state.specs.declared.state.State.{State}
 use Rattle.basics.proofs.Choice.{and-split}
 use Rattle.utf8.specs.Chars.{chars}
@@ -25,18 +24,23 @@ use Rattle.batch.specs.declared.near.Near.{Near}
 use Rattle.batch.specs.declared.next.Next.{Next}
 use Rattle.batch.specs.Near.{nearAs}
 use Rattle.batch.specs.Simple.{Gave}
-use Rattle.scanner.specs.Steps.{Reads, tokenBy}
-use Rattle.batch.specs.Run.{stateAt, IsSafe}
-use Rattle.scanner.proofs.Scans.{held}
+use Rattle.scanner.specs.Steps.{Reads}
+use Rattle.batch.specs.Run.{stateAt, IsSafe, Recorded, Leads}
+use Rattle.scanner.proofs.Scans.{held, scan-kept}
 use Rattle.scanner.proofs.Fitting.{fits-after}
 use Rattle.batch.proofs.Given.{left-more}
 use Rattle.scanner.proofs.LineStarts.{skip-line-within}
-use Rattle.batch.proofs.SimpleScans.{gave, Recorded, end-over, token, next, scans, goes-on}
+use Rattle.batch.proofs.SimpleScans.{gave, end-over, token, next, scans, goes-on}
 
 -- the state that a scan without a refusal leaves, which is known, fits
 pub scan-fits : (src : List ℕ) (s : State) (table list area : List ℕ) → fits s src table list ≡ true
     → {a : After} → a ≡ scanOf src s table list area → a .answer .refusal ≡ 0 → fits (a .answer .state) src (a .table) (a .list) ≡ true
 scan-fits src s table list area f e z = rw e (fits-after src s table list area f (rw e at z))
+
+-- and the state that a refused scan leaves is the one that fitted
+pub refused-fits : (src : List ℕ) (s : State) (table list area : List ℕ) → fits s src table list ≡ true
+    → {a : After} → a ≡ scanOf src s table list area → (a .answer .refusal ≡ 0 → ⊥) → fits (a .answer .state) src (a .table) (a .list) ≡ true
+refused-fits src s table list area f e g = rw (e ∙ scan-kept src s table list area (rw e at g)) f
 
 module _ (src : List ℕ) (s : State) (table list : List ℕ) {next : State} {token : Token} {table′ : List ℕ}
     (scans : (area : List ℕ) → scanOf src s table list area ≡ gave next token table′ list area) where
@@ -76,17 +80,6 @@ module _ (src : List ℕ) (place : ℕ) (mark : Bool) (n : Near) (near : nearAs 
       let w = skip-line-within mark (chars (drop place src)) in
       (omega (arith, e), omega (arith, l), omega (arith, e, l, w))
 
-  -- the line start behind their line feed, as the code writes it
-  module _ (first : State) (table : List ℕ) (lines : ℕ) (over : first .place ≤ place) where
-    pub recorded-line : n .lf ≡ true → lines < length table → {table′ : List ℕ} → table′ ≡ set table lines (first .offset + (n .line - first .place))
-        → Recorded (stateAt first place mark lines) (nearAs n) table table′
-    recorded-line f h w =
-        let e : first .offset + (n .line - first .place) ≡ first .offset + (place - first .place) + (n .line - place) = omega (arith, over, near-past .1) in
-        inr (rw f, h, w ∙ ap (set table lines) e)
-
-    pub recorded-nothing : n .lf ≡ false → {table′ : List ℕ} → table′ ≡ table → Recorded (stateAt first place mark lines) (nearAs n) table table′
-    recorded-nothing f w = inl (rw f (omega arith), w)
-
 -- ---- a step of a run: a simple token behind such blanks
 module _ (src : List ℕ) (first : State) (safe : ℕ) (is-safe : IsSafe src first safe) (table list : List ℕ) (place lines : ℕ) (mark : Bool)
     (over : first .place ≤ place) (low : first .offset ≤ first .size) (holds : fits (stateAt first place mark lines) src table list ≡ true)
@@ -108,7 +101,7 @@ module _ (src : List ℕ) (first : State) (safe : ℕ) (is-safe : IsSafe src fir
   end-past : n .end ≤ g .x .end
   end-past = end-over src here table list (nearAs n) (g .x) holds reads (g .plain) (g .ascii) (g .feeds)
 
-  step-over : first .place ≤ r .place
+  pub step-over : first .place ≤ r .place
   step-over = omega (arith, g .place, over, start-past, end-past)
 
   before-size : here .offset + (g .x .end - here .place) < here .size
@@ -145,8 +138,7 @@ module _ (src : List ℕ) (first : State) (safe : ℕ) (is-safe : IsSafe src fir
       ∙ ap (λ l. leftAfter (count + 1) l (manyOf (room - (count + 1)) src stepped table′ list area)) (sym written)
       ∙ ap (λ t. leftAfter (count + 1) tokens′ (manyOf (room - (count + 1)) src t table′ list area)) there-is
 
-  pub step : (first .place ≤ r .place) × (fits there src table′ list ≡ true) × (length tokens′ ≡ length tokens)
-      × ((room count : ℕ) → to ≡ count * tokenWidth → count < room → (area : List ℕ)
-      → leftAfter count tokens (manyOf (room - count) src here table list area) ≡ leftAfter (count + 1) tokens′ (manyOf (room - (count + 1)) src there table′ list area))
-  step =
-      (step-over, step-fits, ap length (g .written) ∙ length-sets tokens to (tokenNumbers (tokenBy (g .x) (n .end) (first .base + first .offset + (n .end - first .place)))), step-more)
+  -- to the count behind it, with the line starts that there are then
+  pub step : (room count lines′ : ℕ) → to ≡ count * tokenWidth → count < room → lines′ ≡ lines + cond (n .lf) 1 0
+      → Leads room src list here table tokens count (stateAt first (r .place) (r .mark) lines′) table′ tokens′ (count + 1)
+  step room count lines′ at h e = rw e (record { fit = step-fits; over = omega arith; within = omega arith; left = step-more room count at h; same = λ z. absurd (omega (arith, z)) })

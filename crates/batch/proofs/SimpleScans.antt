@@ -24,7 +24,7 @@ use Rattle.scanner.specs.declared.answer.Scanned.{Scanned}
 use Rattle.scanner.specs.Scan.{After, scanOf}
 use Rattle.scanner.specs.Steps.{Reads, toWrite, isPlain, refusalBy, stateBy, tokenBy, startsFrom}
 use Rattle.batch.specs.Many.{isLast}
-use Rattle.batch.specs.Run.{stateAt}
+use Rattle.batch.specs.Run.{stateAt, Recorded}
 use Rattle.scanner.proofs.Refusals.{refusal-none, list-none}
 use Rattle.scanner.proofs.Pass.{left, start-behind, read, read-bound, end-behind, feeds-read, starts-feeds, sets-none}
 use Rattle.scanner.proofs.Scans.{Held, held, scan-gave}
@@ -34,11 +34,6 @@ use Rattle.scanner.proofs.LineStarts.{starts-one}
 -- what a scan leaves that gives a token and writes to the table alone
 abbrev pub gave : State → Token → List ℕ → List ℕ → List ℕ → After
 gave next token table list area = record { table = table; list = list; area = area; answer = record { refusal = 0; state = next; token = token } }
-
--- what is written: nothing, or behind one line feed where the next line starts
-abbrev pub Recorded : State → Skipped → List ℕ → List ℕ → Type 0
-Recorded s b table table′ =
-    ((b .lfs ≤ 0) × (table′ ≡ table)) ⊎ ((b .lfs ≡ 1) × (s .lines < length table) × (table′ ≡ set table (s .lines) (s .offset + (b .line - s .place))))
 
 module _ (s : State) (b : Skipped) (table table′ : List ℕ) where
   pub recorded-room : s .lines ≤ length table → Recorded s b table table′ → s .lines + b .lfs ≤ length table

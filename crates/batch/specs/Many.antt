@@ -2,18 +2,18 @@
 use Prim.Native.Nat.{ℕ, zero, suc, _+_, _*_, _/_}
 use mathlib.Core.Bool.{Bool, cond, _||_}
 use mathlib.Core.List.{List, [], _∷_, _++_}
-use lib.Dec.{eqb}
+use lib.Dec.{eqb, ltb}
 use lib.ListN.{length}
 use lib.Seq.{sets}
+use Rattle.refusal.specs.Refusals.{DOES-NOT-FIT}
 use Rattle.kinds.specs.Kinds.{EOF}
 use Rattle.state.specs.declared.state.State.{State}
 use Rattle.scanner.specs.declared.answer.Token.{Token}
-use Rattle.scanner.specs.Scan.{After, scanOf}
+use Rattle.scanner.specs.Scan.{scanOf}
 use Rattle.batch.specs.Layout.{tokenWidth, tokenNumbers}
 
--- what scans leave, the tokens that they gave, and the refusal at which they stopped, or 0
+-- what scans leave, and the tokens that they gave
 pub record Run : Type 0 where
-  pub refusal : ℕ
   pub state : State
   pub table : List ℕ
   pub list : List ℕ
@@ -24,24 +24,24 @@ pub record Run : Type 0 where
 abbrev pub isLast : Token → Bool
 isLast t = t .text .area || t .value .area || eqb (t .kind) EOF
 
--- the scans stop here: what this one leaves, which is all as it was where it is refused
-abbrev pub stopped : After → List Token → Run
-stopped a tokens =
-    record { refusal = a .answer .refusal; state = a .answer .state; table = a .table; list = a .list; area = a .area; tokens = tokens }
+-- no more scans
+abbrev pub stopped : State → List ℕ → List ℕ → List ℕ → Run
+stopped s table list area = record { state = s; table = table; list = list; area = area; tokens = [] }
 
 -- a token in front of those of the scans after it
 abbrev pub before : Token → Run → Run
-before t r = record { refusal = r .refusal; state = r .state; table = r .table; list = r .list; area = r .area; tokens = t ∷ r .tokens }
+before t r = record { state = r .state; table = r .table; list = r .list; area = r .area; tokens = t ∷ r .tokens }
 
--- as many scans as there is room for tokens
+-- as many scans as there is room for tokens; they stop behind a last token, and before a scan that is refused
 unfoldable pub manyOf : ℕ → List ℕ → State → List ℕ → List ℕ → List ℕ → Run
-manyOf zero src s table list area = record { refusal = 0; state = s; table = table; list = list; area = area; tokens = [] }
+manyOf zero src s table list area = stopped s table list area
 manyOf (suc n) src s table list area =
     let a = scanOf src s table list area in
     let t = a .answer .token in
+    let s′ = a .answer .state in
     cond (eqb (a .answer .refusal) 0)
-    (cond (isLast t) (stopped a (t ∷ [])) (before t (manyOf n src (a .answer .state) (a .table) (a .list) (a .area))))
-    (stopped a [])
+    (before t (cond (isLast t) (stopped s′ (a .table) (a .list) (a .area)) (manyOf n src s′ (a .table) (a .list) (a .area))))
+    (stopped s table list area)
 
 -- tokens, ten numbers each
 unfoldable pub tokensNumbers : List Token → List ℕ
@@ -52,7 +52,7 @@ tokensNumbers (t ∷ ts) = tokenNumbers t ++ tokensNumbers ts
 abbrev pub tokenRoom : List ℕ → ℕ
 tokenRoom tokens = length tokens / tokenWidth
 
--- the same with the tokens by their numbers in a slice, and their count
+-- what a call leaves: the tokens by their numbers in a slice, their count, and the refusal, or 0
 pub record Left : Type 0 where
   pub refusal : ℕ
   pub state : State
@@ -66,7 +66,7 @@ pub record Left : Type 0 where
 abbrev pub leftAfter : ℕ → List ℕ → Run → Left
 leftAfter n tokens r =
     record {
-      refusal = r .refusal;
+      refusal = 0;
       state = r .state;
       table = r .table;
       list = r .list;
@@ -75,6 +75,15 @@ leftAfter n tokens r =
       count = n + length (r .tokens);
     }
 
--- at the front
-unfoldable pub leftBy : List ℕ → Run → Left
-leftBy tokens r = leftAfter 0 tokens r
+-- a refusal leaves all as it was
+abbrev pub refusedWith : ℕ → State → List ℕ → List ℕ → List ℕ → List ℕ → Left
+refusedWith n s table list area tokens =
+    record { refusal = n; state = s; table = table; list = list; area = area; tokens = tokens; count = 0 }
+
+-- many scans in one call: it is refused where there is no room for a token, and where the first scan is
+unfoldable pub scanManyOf : List ℕ → State → List ℕ → List ℕ → List ℕ → List ℕ → Left
+scanManyOf src s table list area tokens =
+    let n = scanOf src s table list area .answer .refusal in
+    cond (ltb (length tokens) tokenWidth) (refusedWith DOES-NOT-FIT s table list area tokens)
+    (cond (eqb n 0) (leftAfter 0 tokens (manyOf (tokenRoom tokens) src s table list area))
+    (refusedWith n s table list area tokens))

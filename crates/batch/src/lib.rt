@@ -5,8 +5,10 @@ mod literal;
 mod many;
 mod near;
 mod next;
+mod round;
 mod run;
 mod simple;
+mod step;
 mod word;
 
 pub use layout::put_token;

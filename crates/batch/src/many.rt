@@ -1,38 +1,86 @@
 // Many scans in one call: token after token, each by its numbers.
 use crate::first::first_kinds;
-use crate::layout::put_token_at;
-use crate::run::run_simple;
+use crate::round::Round;
+use crate::round::scan_round;
 use scanner::Token;
-use scanner::scan;
 use state::State;
 ghost use mathlib.Core.Path.{_≡_};
-ghost use Rattle.batch.specs.Many.{isLast, manyOf, tokenRoom, leftBy};
+ghost use mathlib.Core.Bool.{true};
+ghost use Prim.Native.Nat.{_≤_};
+ghost use lib.ListN.{length};
+ghost use Rattle.state.specs.Fits.{fits};
+ghost use Rattle.batch.specs.Layout.{tokenWidth};
+ghost use Rattle.batch.specs.Many.{scanManyOf};
 
-// The refusal at which the scans stopped, or 0; the state after them; how many tokens they gave.
+// The refusal of the call, or 0; the state after its scans; how many tokens they gave. A call that is refused leaves the state as it was and
+// gives no token.
 pub struct Batch {
     pub refusal: u8,
     pub state: State,
     pub count: usize,
 }
 
-fn stopped(refusal: u8, state: State, count: usize) -> Batch
-    ensures { λ r. ⌜ r ≡ record { refusal = refusal; state = state; count = count } ⌝ }
+fn refused(number: u8, state: State) -> Batch
+    ensures { λ r. ⌜ r ≡ record { refusal = number; state = state; count = 0 } ⌝ }
 {
     Batch {
-        refusal,
+        refusal: number,
         state,
-        count,
+        count: 0,
     }
 }
 
-// Is no scan to be made behind this token?
-fn is_last(t: Token) -> bool
-    ensures { λ r. ⌜ r ≡ isLast t ⌝ }
+// Scans until a token is the last, the next scan would be refused or there is no room for one more token.
+fn scan_rounds(
+    src: &[u8],
+    first: State,
+    table: &mut [usize],
+    list: &mut [usize],
+    area: &mut [u8],
+    tokens: &mut [usize],
+) -> Batch
+    requires { ⌜ (fits first (now src) (now table) (now list) ≡ true) × (tokenWidth ≤ length (now tokens)) ⌝ }
+    ensures { λ r. ⌜ record { refusal = r .refusal; state = r .state; table = now (table .exit); list = now (list .exit); area = now (area .exit); tokens = now (tokens .exit); count = r .count }
+        ≡ scanManyOf (now (src .entry)) first (now (table .entry)) (now (list .entry)) (now (area .entry)) (now (tokens .entry)) ⌝ }
 {
-    t.text.area | t.value.area | (t.kind == kinds::EOF)
+    let room = tokens.len() / Token::NUMBERS;
+    let firsts = first_kinds();
+    let numbers = keywords::keyword_numbers();
+    let kinds = keywords::keyword_kinds();
+    let mut round = Round {
+        more: true,
+        state: first,
+        refusal: 0,
+        count: 0,
+    };
+    while round.more {
+        round = scan_round(
+            src,
+            &firsts,
+            &numbers,
+            &kinds,
+            round,
+            table,
+            list,
+            area,
+            tokens,
+            room,
+        );
+    }
+    if round.count == 0 {
+        return refused(round.refusal, first);
+    }
+    let state = round.state;
+    Batch {
+        refusal: 0,
+        state,
+        count: round.count,
+    }
 }
 
-// Scans until a token is the last, a scan is refused or there is no room for one more token. A token is written as ten numbers.
+// Scans token after token, as many as `tokens` has room for, ten numbers each. It stops behind a token that shows something from the text
+// area, since the next scan would write over it, behind EOF, and before a scan that would be refused. A call without room for a token is
+// refused, and so is one whose first scan is; it changes nothing.
 pub fn scan_many(
     src: &[u8],
     first: State,
@@ -42,48 +90,13 @@ pub fn scan_many(
     tokens: &mut [usize],
 ) -> Batch
     ensures { λ r. ⌜ record { refusal = r .refusal; state = r .state; table = now (table .exit); list = now (list .exit); area = now (area .exit); tokens = now (tokens .exit); count = r .count }
-        ≡ leftBy (now (tokens .entry)) (manyOf (tokenRoom (now (tokens .entry))) (now (src .entry)) first (now (table .entry)) (now (list .entry)) (now (area .entry))) ⌝ }
+        ≡ scanManyOf (now (src .entry)) first (now (table .entry)) (now (list .entry)) (now (area .entry)) (now (tokens .entry)) ⌝ }
 {
-    let room = tokens.len() / Token::NUMBERS;
-    if room == 0 {
-        return stopped(0, first, 0);
+    if tokens.len() < Token::NUMBERS {
+        return refused(refusal::DOES_NOT_FIT, first);
     }
     if !first.fits(src, table, list) {
-        return stopped(refusal::DOES_NOT_FIT, first, 0);
+        return refused(refusal::DOES_NOT_FIT, first);
     }
-    let firsts = first_kinds();
-    let numbers = keywords::keyword_numbers();
-    let kinds = keywords::keyword_kinds();
-    let mut state = first;
-    let mut count = 0;
-    while count < room {
-        let run = run_simple(
-            src,
-            &firsts,
-            &numbers,
-            &kinds,
-            state,
-            table,
-            list,
-            tokens,
-            count,
-            room,
-        );
-        state = run.state;
-        count = run.count;
-        if count == room {
-            return stopped(0, state, count);
-        }
-        let scanned = scan(src, state, table, list, area);
-        state = scanned.state;
-        if scanned.refusal != 0 {
-            return stopped(scanned.refusal, state, count);
-        }
-        put_token_at(scanned.token, tokens, count * Token::NUMBERS);
-        count += 1;
-        if is_last(scanned.token) {
-            return stopped(0, state, count);
-        }
-    }
-    stopped(0, state, count)
+    scan_rounds(src, first, table, list, area, tokens)
 }

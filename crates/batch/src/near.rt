@@ -1,5 +1,6 @@
 // Blanks between most tokens: one space or nothing, or a line feed and tabs.
 ghost use mathlib.Core.Path.{_≡_};
+ghost use mathlib.Core.Bool.{false};
 ghost use Prim.Native.Nat.{_+_, _≤_};
 ghost use lib.ListN.{length, getD};
 ghost use Rattle.batch.specs.Near.{SpaceTo, NearAt};
@@ -13,6 +14,18 @@ pub(crate) struct Near {
     pub(crate) line: usize,
 }
 
+// No such blanks.
+pub(crate) fn no_blanks(at: usize) -> Near
+    ensures { λ r. ⌜ r .found ≡ false ⌝ }
+{
+    Near {
+        found: false,
+        end: at,
+        lf: false,
+        line: at,
+    }
+}
+
 // The blanks at a place. Each test is a branch, so that what follows does not wait for the byte.
 pub(crate) fn near_blanks(src: &[u8], at: usize, mark: bool) -> Near
     requires { ⌜ at + 11 ≤ length (now src) ⌝ }
@@ -20,11 +33,11 @@ pub(crate) fn near_blanks(src: &[u8], at: usize, mark: bool) -> Near
 {
     let mut p = at;
     let mut b = src[p];
-    if b == 32 {
+    if b == b' ' {
         p += 1;
         b = src[p];
     }
-    if b > 32 {
+    if b > b' ' {
         return Near {
             found: true,
             end: p,
@@ -32,13 +45,8 @@ pub(crate) fn near_blanks(src: &[u8], at: usize, mark: bool) -> Near
             line: at,
         };
     }
-    if b != 10 {
-        return Near {
-            found: false,
-            end: p,
-            lf: false,
-            line: at,
-        };
+    if b != b'\n' {
+        return no_blanks(at);
     }
     line_feed(src, at, p, mark)
 }
@@ -60,7 +68,7 @@ fn line_feed(src: &[u8], at: usize, p: usize, mark: bool) -> Near
     let tabs = u64::trailing_zeros(swar::eight(src, line) ^ 0x0909_0909_0909_0909) as usize / 8;
     let end = line + tabs;
     Near {
-        found: src[end] > 32,
+        found: src[end] > b' ',
         end,
         lf: true,
         line,

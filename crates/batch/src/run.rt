@@ -1,19 +1,15 @@
 // Runs of simple tokens.
-use crate::near::Near;
-use crate::near::near_blanks;
-use crate::simple::give_simple;
-use scanner::Token;
+use crate::step::Reached;
+use crate::step::next_simple;
 use state::State;
 ghost use mathlib.Core.Path.{_≡_};
 ghost use mathlib.Core.Bool.{true};
-ghost use mathlib.Core.List.{List};
-ghost use Prim.Native.Nat.{ℕ, _+_, _-_, _*_, _≤_, _<_, _^_};
+ghost use Prim.Native.Nat.{_+_, _-_, _*_, _≤_, _<_, _^_};
 ghost use lib.ListN.{length};
 ghost use Rattle.state.specs.Fits.{fits};
 ghost use Rattle.batch.specs.Layout.{tokenWidth};
 ghost use Rattle.batch.specs.Simple.{IsTable, IsKeywords};
-ghost use Rattle.batch.specs.Run.{stateAt, IsSafe};
-ghost use Rattle.batch.specs.Many.{manyOf, leftAfter};
+ghost use Rattle.batch.specs.Run.{stateAt, IsSafe, Leads};
 
 // The state after simple tokens, and how many tokens there are then.
 pub(crate) struct Run {
@@ -26,15 +22,8 @@ fn state_at(first: State, place: usize, mark: bool, lines: usize) -> State
     requires { ⌜ (first .place ≤ place) × (first .offset + (place - first .place) < 2 ^ 64) ⌝ }
     ensures { λ r. ⌜ r ≡ stateAt first place mark lines ⌝ }
 {
-    State {
-        base: first.base,
-        size: first.size,
-        place,
-        offset: first.offset + (place - first.place),
-        mark,
-        lines,
-        errors: first.errors,
-    }
+    let offset = first.offset + (place - first.place);
+    first.advanced(place, offset, mark, lines, first.errors)
 }
 
 // A place before which simple tokens start: from there more than sixteen bytes are in the source, and the offset stays below the size.
@@ -47,37 +36,12 @@ fn safe_end(src: &[u8], first: State) -> usize
     if limit < 16 { 0 } else { limit - 16 }
 }
 
-// A run that stopped at a place.
-fn run_at(first: State, place: usize, mark: bool, lines: usize, count: usize) -> Run
-    requires { ⌜ (first .place ≤ place) × (first .offset + (place - first .place) < 2 ^ 64) ⌝ }
-    ensures { λ r. ⌜ r ≡ record { state = stateAt first place mark lines; count = count } ⌝ }
-{
-    let state = state_at(first, place, mark, lines);
-    Run { state, count }
-}
-
-// May a token be given behind these blanks? It starts before the safe place, and there is room for the line start.
-fn is_ready(blanks: Near, safe: usize, lines: usize, table: &[usize]) -> bool
-    ensures { λ r. ⌜ (r ≡ true → (blanks .found ≡ true) × (blanks .end < safe) × (blanks .lf ≡ true → lines < length (now (table .entry)))) ⌝ }
-{
-    if !blanks.found {
-        return false;
-    }
-    if safe <= blanks.end {
-        return false;
-    }
-    if blanks.lf {
-        return lines < table.len();
-    }
-    true
-}
-
-// Simple tokens one after the other, behind so many, while there is room. What changes from token to token is kept in four numbers.
+// Simple tokens one after the other, behind so many, while there is room. What changes from token to token is kept in few numbers.
 pub(crate) fn run_simple(
     src: &[u8],
     firsts: &[u8; 256],
-    numbers: &[u64; 64],
-    kinds: &[u8; 64],
+    keyword_numbers: &[u64; 64],
+    keyword_kinds: &[u8; 64],
     first: State,
     table: &mut [usize],
     list: &[usize],
@@ -85,48 +49,36 @@ pub(crate) fn run_simple(
     from: usize,
     room: usize,
 ) -> Run
-    requires { ⌜ (fits first (now src) (now table) (now list) ≡ true) × IsTable (now firsts) × IsKeywords (now numbers) (now kinds) × (from ≤ room)
+    requires { ⌜ (fits first (now src) (now table) (now list) ≡ true) × IsTable (now firsts) × IsKeywords (now «keyword_numbers») (now «keyword_kinds») × (from < room)
         × (room * tokenWidth ≤ length (now tokens)) ⌝ }
-    ensures { λ r. ⌜ (fits (r .state) (now (src .entry)) (now (table .exit)) (now (list .entry)) ≡ true) × (from ≤ r .count) × (r .count ≤ room)
-        × ((area : List ℕ) → leftAfter from (now (tokens .entry)) (manyOf (room - from) (now (src .entry)) first (now (table .entry)) (now (list .entry)) area)
-        ≡ leftAfter (r .count) (now (tokens .exit)) (manyOf (room - r .count) (now (src .entry)) (r .state) (now (table .exit)) (now (list .entry)) area)) ⌝ }
+    ensures { λ r. ⌜ Leads room (now (src .entry)) (now (list .entry)) first (now (table .entry)) (now (tokens .entry)) from (r .state) (now (table .exit)) (now (tokens .exit)) (r .count) ⌝ }
 {
     let safe = safe_end(src, first);
-    let mut place = first.place;
-    let mut mark = first.mark;
-    let mut lines = first.lines;
-    let mut count = from;
-    while count < room {
-        if safe <= place {
-            return run_at(first, place, mark, lines, count);
-        }
-        let blanks = near_blanks(src, place, mark);
-        if !is_ready(blanks, safe, lines, table) {
-            return run_at(first, place, mark, lines, count);
-        }
-        let at = blanks.end;
-        let position = first.base + first.offset + (at - first.place);
-        let next = give_simple(
+    let mut at = Reached {
+        more: true,
+        place: first.place,
+        mark: first.mark,
+        lines: first.lines,
+        count: from,
+    };
+    while at.more {
+        at = next_simple(
             src,
             firsts,
-            numbers,
-            kinds,
-            at,
+            keyword_numbers,
+            keyword_kinds,
+            first,
             safe,
-            position,
+            at,
+            table,
+            list,
             tokens,
-            count * Token::NUMBERS,
+            room,
         );
-        if !next.found {
-            return run_at(first, place, mark, lines, count);
-        }
-        if blanks.lf {
-            table[lines] = first.offset + (blanks.line - first.place);
-            lines += 1;
-        }
-        place = next.place;
-        mark = next.mark;
-        count += 1;
     }
-    run_at(first, place, mark, lines, count)
+    let state = state_at(first, at.place, at.mark, at.lines);
+    Run {
+        state,
+        count: at.count,
+    }
 }

@@ -5,8 +5,9 @@ use mathlib.Core.List.{List, [], _∷_}
 use lib.Dec.{eqb, ltb}
 use lib.ListN.{length}
 use lib.Seq.{sets}
+use Rattle.refusal.specs.Refusals.{DOES-NOT-FIT}
 use Rattle.state.specs.Layout.{stateWidth, stateIn, stateNumbers}
-use Rattle.batch.specs.Many.{Left, manyOf, tokenRoom, leftBy}
+use Rattle.batch.specs.Many.{Left, scanManyOf}
 
 -- what the exported function leaves in the lent slices, and its refusal or 0
 pub record Scans : Type 0 where
@@ -18,12 +19,17 @@ pub record Scans : Type 0 where
   pub tokens : List ℕ
   pub answer : List ℕ
 
--- where no token was given, the state's numbers stay as they were
+-- a refusal leaves all as it was
+abbrev pub refusedWith : ℕ → List ℕ → List ℕ → List ℕ → List ℕ → List ℕ → List ℕ → Scans
+refusedWith n state table list area tokens answer =
+    record { refusal = n; state = state; table = table; list = list; area = area; tokens = tokens; answer = answer }
+
+-- what scans leave: state and count go to their slices
 abbrev pub scansBy : Left → List ℕ → List ℕ → Scans
 scansBy l state answer =
     record {
-      refusal = l .refusal;
-      state = cond (eqb (l .count) 0) state (sets state 0 (stateNumbers (l .state)));
+      refusal = 0;
+      state = sets state 0 (stateNumbers (l .state));
       table = l .table;
       list = l .list;
       area = l .area;
@@ -31,8 +37,9 @@ scansBy l state answer =
       answer = sets answer 0 (l .count ∷ []);
     }
 
+-- it is refused where a slice is too short for a state or an answer, and where many scans from the state in the numbers are
 unfoldable pub scanManyNumbers : List ℕ → List ℕ → List ℕ → List ℕ → List ℕ → List ℕ → List ℕ → Scans
 scanManyNumbers src state table list area tokens answer =
-    cond (ltb (length state) stateWidth || ltb (length answer) 1)
-    (record { refusal = 6; state = state; table = table; list = list; area = area; tokens = tokens; answer = answer })
-    (scansBy (leftBy tokens (manyOf (tokenRoom tokens) src (stateIn state) table list area)) state answer)
+    let l = scanManyOf src (stateIn state) table list area tokens in
+    cond (ltb (length state) stateWidth || ltb (length answer) 1) (refusedWith DOES-NOT-FIT state table list area tokens answer)
+    (cond (eqb (l .refusal) 0) (scansBy l state answer) (refusedWith (l .refusal) state table list area tokens answer))

@@ -1,5 +1,4 @@
-// The exported function: it answers the number of its refusal, or 0, and writes what it gives to lent slices. A slice that is too short
-// for a state or an answer is refused by 6, and nothing is written.
+// The exported function: it answers the number of its refusal, or 0, and writes what it gives to lent slices. A refusal writes nothing.
 use scanner::State;
 use scanner::put_state;
 use scanner::state_in;
@@ -7,8 +6,8 @@ ghost use mathlib.Core.Path.{_≡_};
 ghost use Rattle.batch_c.specs.Many.{scanManyNumbers};
 
 // Scans token after token, as many as `tokens` has room for, ten numbers each. It stops behind a token that shows something from the text
-// area, since the next scan would write over it, behind EOF, and at a refusal, which it answers; `answer` gets the number of tokens given.
-// State and buffers are those that so many scans leave.
+// area, since the next scan would write over it, behind EOF, and before a scan that would be refused; `answer` gets the number of tokens
+// given. A call is refused without room for a state, an answer or a token, and where its first scan is.
 #[no_mangle]
 pub extern "C" fn scanner_scan_many(
     src: &[u8],
@@ -29,10 +28,10 @@ pub extern "C" fn scanner_scan_many(
         return refusal::DOES_NOT_FIT;
     }
     let ran = batch::scan_many(src, state_in(state), table, list, area, tokens);
-    answer[0] = ran.count;
-    if ran.count == 0 {
+    if ran.refusal != 0 {
         return ran.refusal;
     }
+    answer[0] = ran.count;
     put_state(ran.state, state);
-    ran.refusal
+    0
 }

@@ -23,6 +23,7 @@ use Rattle.lines.proofs.Written.{sets-take}
 use Rattle.blanks.specs.Blank.{skip}
 use Rattle.lexer.specs.declared.lexed.Lexed.{Lexed}
 use Rattle.lexer.specs.Lexeme.{Lexeme, raise}
+use Rattle.lexer.specs.Lex.{lex}
 use Rattle.lexer.specs.Placed.{Placed, placed, said}
 use Rattle.reading.specs.Reading.{Reading, errorAt, newErrors, after}
 use Rattle.state.specs.declared.state.State.{State}
@@ -77,6 +78,23 @@ unless-not (suc m) h a s table list area = refl
 pub scan-unfit : (src : List ℕ) (s : State) (table list area : List ℕ) → fits s src table list ≡ false → scanOf src s table list area ≡ refusedBy 6 s table list area
 unfolding scanOf scanBy
 scan-unfit src s table list area f = rw f
+
+-- a scan that is refused leaves all as it was
+unless-kept : (number : ℕ) (a : After) (s : State) (table list area : List ℕ) → a .answer .refusal ≡ 0 → (unless number a s table list area .answer .refusal ≡ 0 → ⊥)
+    → unless number a s table list area ≡ refusedBy (unless number a s table list area .answer .refusal) s table list area
+unless-kept zero a s table list area z h = absurd (h z)
+unless-kept (suc m) a s table list area z h = refl
+
+pub scan-kept : (src : List ℕ) (s : State) (table list area : List ℕ) → (scanOf src s table list area .answer .refusal ≡ 0 → ⊥)
+    → scanOf src s table list area ≡ refusedBy (scanOf src s table list area .answer .refusal) s table list area
+unfolding scanOf scanBy
+scan-kept src s table list area h =
+    let r = view src s table list in
+    let x = lex (r .mark) (r .rest) in
+    let p = placed src (startOf r x) x in
+    let u = after (s .size) x r in
+    unless-kept (refusalOf (fits s src table list) (s .size) u (length table) (roomOf list) (length (toArea p)) (length area))
+    (gaveBy s p (tokenOf (s .base) (startOf r x) r p) u table list area) s table list area refl h
 
 -- ---- a scan that fits, behind its pass
 module _ (src : List ℕ) (s : State) (table list area : List ℕ) (k : Held s src table list) (start : ℕ) (at : start ≡ s .place + skip (s .mark) (left src s start) .len) (x : Lexed) (e : said src start x ≡ placed src start (token src s start)) where

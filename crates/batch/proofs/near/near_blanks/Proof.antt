@@ -32,8 +32,11 @@ returns c e =
     let a = c .before .before .before .before .args in
     near-stop (a .mark) (a .src .now) (a .at) (c .before .if1 .p) (place (c .before)) (blank-above (a .mark) _ (rw (byte (c .before)) at (c .if2 .taken)))
 
+no-blanks-requires : tie.Need-no-blanks-requires
+no-blanks-requires c κs = tt
+
 returns-2 : tie.Need-returns-2
-returns-2 c e = absurd (false≢true e)
+returns-2 c e = absurd (false≢true (sym (c .no-blanks .ensures) ∙ e))
 
 line-feed-requires : tie.Need-line-feed-requires
 line-feed-requires c κs =
@@ -51,6 +54,7 @@ near-blanks-spec =
     add-p
     shared-slice-read-b-2
     returns
+    no-blanks-requires
     returns-2
     line-feed-requires
     returns-3)

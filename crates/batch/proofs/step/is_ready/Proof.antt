@@ -1,9 +1,9 @@
--- `batch::run::is_ready` meets its contract: the tests that led to each return.
+-- `batch::step::is_ready` meets its contract: the tests that led to each return.
 use mathlib.Core.Path.{sym, _∙_}
 use mathlib.Core.Bool.{true≢false, false≢true}
 use borrow.Author.Tests.{ltb-true, not-false}
-use Rattle.batch.proofs.run.is_ready.Statement.{statement}
-use Rattle.batch.proofs.run.is_ready.Tie as tie
+use Rattle.batch.proofs.step.is_ready.Statement.{statement}
+use Rattle.batch.proofs.step.is_ready.Tie as tie
 
 returns : tie.Need-returns
 returns c e = absurd (false≢true e)
