@@ -1,15 +1,18 @@
 // The listing of a text: its tokens, its errors and the count of its lines, or the refusal at which it stops.
-use crate::output;
 use crate::output::Buffer;
 use crate::show;
 use errors::Got;
 use position::Located;
 use position::Position;
 use scanner::Opened;
+use scanner::Scanned;
 use scanner::State;
 use scanner::Token;
 
-// The most scans of 65,536 characters: each reads one or more, or inserts a semicolon behind one that did, or is the EOF's.
+// The longest text in bytes.
+const MOST_BYTES: usize = 65_536;
+
+// The most scans of so many characters: each reads one or more, or inserts a semicolon behind one that did, or is the EOF's.
 const MOST_SCANS: usize = 131_073;
 
 // How far a listing has come.
@@ -29,6 +32,29 @@ fn over(state: State, waiting: usize, refusal: u8) -> Progress {
         waiting,
         over: true,
         refusal,
+    }
+}
+
+// A listing that a refusal ends before it starts.
+fn refused(number: u8) -> Progress {
+    over(State::new(0, 0), 0, number)
+}
+
+// Opens a text at base 0, in a size of its bytes.
+fn open(src: &[u8], table: &mut [usize]) -> Progress {
+    if src.len() > MOST_BYTES {
+        return refused(refusal::TOO_LONG);
+    }
+    let opened = scanner::open(src, 0, src.len(), table);
+    match opened {
+        Opened::Ready { state, chars: _ } => Progress {
+            state,
+            waiting: 0,
+            over: false,
+            refusal: 0,
+        },
+        Opened::NotUtf8 { place: _ } => refused(refusal::NOT_UTF8),
+        Opened::Refused(number) => refused(number),
     }
 }
 
@@ -60,16 +86,20 @@ fn list_placed<'a>(
     }
 }
 
-// Lists a token, by the state after it.
-fn list_token<'a>(
+// Lists what a scan answered.
+fn list_scanned<'a>(
     src: &'a [u8],
     area: &'a [u8],
     table: &[usize],
-    state: State,
-    token: Token,
+    scanned: Scanned,
     out: &mut Buffer,
     waiting: usize,
 ) -> Progress {
+    let state = scanned.state;
+    let token = scanned.token;
+    if scanned.refusal != 0 {
+        return over(state, waiting, scanned.refusal);
+    }
     let located = scanner::position(state, table, token.position);
     match located {
         Located::At(place) => list_placed(src, area, state, token, place, out, waiting),
@@ -88,28 +118,23 @@ fn list_next(
     waiting: usize,
 ) -> Progress {
     let scanned = scanner::scan(src, state, table, list, area);
-    if scanned.refusal != 0 {
-        return over(scanned.state, waiting, scanned.refusal);
-    }
-    list_token(src, area, table, scanned.state, scanned.token, out, waiting)
+    list_scanned(src, area, table, scanned, out, waiting)
 }
 
 // Lists the tokens to the first EOF.
 fn list_tokens(
     src: &[u8],
-    first: State,
+    opened: Progress,
     table: &mut [usize],
     list: &mut [usize],
     area: &mut [u8],
     out: &mut Buffer,
 ) -> Progress {
-    let mut progress = Progress {
-        state: first,
-        waiting: 0,
-        over: false,
-        refusal: 0,
-    };
+    let mut progress = opened;
     for k in 0..MOST_SCANS {
+        if progress.over {
+            return progress;
+        }
         progress = list_next(
             src,
             progress.state,
@@ -119,9 +144,6 @@ fn list_tokens(
             out,
             progress.waiting,
         );
-        if progress.over {
-            return progress;
-        }
     }
     progress
 }
@@ -140,36 +162,24 @@ fn list_errors(state: State, list: &[usize], out: &mut Buffer, waiting: usize) -
     over(state, at, 0)
 }
 
-// Ends a listing with a refusal.
-pub(crate) fn refuse(out: &mut Buffer, waiting: usize, number: u8) {
-    let end = show::refusal(out, waiting, number);
-    output::flush(out, end);
-}
-
-// Lists a text that is open.
-fn list_opened(
-    src: &[u8],
-    first: State,
-    table: &mut [usize],
-    list: &mut [usize],
-    area: &mut [u8],
-    out: &mut Buffer,
-) {
-    let tokens = list_tokens(src, first, table, list, area, out);
+// Lists what follows the tokens: the errors, unless a refusal ended the listing.
+fn list_rest(tokens: Progress, list: &[usize], out: &mut Buffer) -> Progress {
     if tokens.refusal != 0 {
-        refuse(out, tokens.waiting, tokens.refusal);
-        return;
+        return tokens;
     }
-    let errors = list_errors(tokens.state, list, out, tokens.waiting);
-    if errors.refusal != 0 {
-        refuse(out, errors.waiting, errors.refusal);
-        return;
-    }
-    let end = show::line_count(out, errors.waiting, errors.state.lines);
-    output::flush(out, end);
+    list_errors(tokens.state, list, out, tokens.waiting)
 }
 
-// Lists a text at base 0, in a size of its bytes.
+// Ends a listing, with its refusal or the count of lines.
+fn end(last: Progress, out: &mut Buffer) {
+    if last.refusal != 0 {
+        show::end(out, last.waiting, b'R', last.refusal as usize);
+    } else {
+        show::end(out, last.waiting, b'L', last.state.lines);
+    }
+}
+
+// Lists a text.
 pub(crate) fn list(
     src: &[u8],
     table: &mut [usize],
@@ -177,10 +187,8 @@ pub(crate) fn list(
     area: &mut [u8],
     out: &mut Buffer,
 ) {
-    let opened = scanner::open(src, 0, src.len(), table);
-    match opened {
-        Opened::Ready { state, chars: _ } => list_opened(src, state, table, list, area, out),
-        Opened::NotUtf8 { place: _ } => refuse(out, 0, refusal::NOT_UTF8),
-        Opened::Refused(number) => refuse(out, 0, number),
-    }
+    let opened = open(src, table);
+    let tokens = list_tokens(src, opened, table, list, area, out);
+    let last = list_rest(tokens, list, out);
+    end(last, out);
 }

@@ -1,8 +1,5 @@
 // Output by way of a buffer, whose first `waiting` bytes are still to be written. What adds to it answers how many wait then.
 use libc::STDOUT_FILENO;
-ghost use mathlib.Core.Path.{_≡_};
-ghost use Prim.Native.Nat.{_<_};
-ghost use Rattle.io.specs.Digits.{glyph};
 
 const ROOM: usize = 4096;
 
@@ -42,24 +39,15 @@ pub(crate) fn decimal(out: &mut Buffer, waiting: usize, n: usize) -> usize {
     bytes(out, waiting, &digits[..k])
 }
 
-pub(crate) fn hex(out: &mut Buffer, waiting: usize, n: u32) -> usize {
+// Adds a number by its hexadecimal digits, as many as the width at least.
+pub(crate) fn hex(out: &mut Buffer, waiting: usize, n: u64, width: usize) -> usize {
     let mut digits = [0u8; 16];
-    let k = io::hex(n as u64, 1, &mut digits);
+    let k = io::hex(n, width, &mut digits);
     bytes(out, waiting, &digits[..k])
 }
 
-// A hexadecimal digit in lower case.
-fn digit(d: u8) -> u8
-    requires { ⌜ d < 16 ⌝ }
-    ensures { λ r. ⌜ r ≡ glyph d ⌝ }
-{
-    if d < 10 { 48 + d } else { 87 + d }
-}
-
-// Adds a byte by its two hexadecimal digits.
 fn hex_byte(out: &mut Buffer, waiting: usize, b: u8) -> usize {
-    let end = byte(out, waiting, digit(b / 16));
-    byte(out, end, digit(b % 16))
+    hex(out, waiting, b as u64, 2)
 }
 
 // Adds bytes in hexadecimal; `-` for none.

@@ -1,4 +1,4 @@
-// The lines of a listing. Each answers how many bytes of output wait then.
+// The lines of a listing. Each but the last answers how many bytes of output wait then.
 use crate::output;
 use crate::output::Buffer;
 use errors::Error;
@@ -33,7 +33,7 @@ fn value_of(out: &mut Buffer, waiting: usize, token: Token, value: &[u8]) -> usi
     }
     if token.kind == kinds::CHAR {
         let end = output::byte(out, waiting, b' ');
-        return output::hex(out, end, token.code);
+        return output::hex(out, end, token.code as u64, 1);
     }
     waiting
 }
@@ -66,18 +66,11 @@ pub(crate) fn error(out: &mut Buffer, waiting: usize, error: Error) -> usize {
     output::byte(out, end, b'\n')
 }
 
-// A letter and a number.
-fn numbered(out: &mut Buffer, waiting: usize, letter: u8, n: usize) -> usize {
+// The last line, a letter and a number; then all is written.
+pub(crate) fn end(out: &mut Buffer, waiting: usize, letter: u8, n: usize) {
     let mut end = output::byte(out, waiting, letter);
     end = output::byte(out, end, b' ');
     end = output::decimal(out, end, n);
-    output::byte(out, end, b'\n')
-}
-
-pub(crate) fn line_count(out: &mut Buffer, waiting: usize, lines: usize) -> usize {
-    numbered(out, waiting, b'L', lines)
-}
-
-pub(crate) fn refusal(out: &mut Buffer, waiting: usize, number: u8) -> usize {
-    numbered(out, waiting, b'R', number as usize)
+    end = output::byte(out, end, b'\n');
+    output::flush(out, end);
 }

@@ -16,9 +16,6 @@ abbrev μ-loop : tie.MeasureT-loop
 loop-holds : tie.Need-loop-holds Inv-loop μ-loop
 loop-holds c = search needs
 
-list-next-requires : tie.Need-list-next-requires Inv-loop μ-loop
-list-next-requires c κs = search needs
-
 same-length : tie.Need-same-length Inv-loop μ-loop
 same-length c = search needs
 
@@ -30,6 +27,9 @@ same-length-3 c = search needs
 
 returns : tie.Need-returns Inv-loop μ-loop
 returns c = search needs
+
+list-next-requires : tie.Need-list-next-requires Inv-loop μ-loop
+list-next-requires c κs = search needs
 
 add-k : tie.Need-add-k Inv-loop μ-loop
 add-k c = search needs
@@ -59,11 +59,11 @@ list-tokens-spec =
     Inv-loop
     μ-loop
     loop-holds
-    list-next-requires
     same-length
     same-length-2
     same-length-3
     returns
+    list-next-requires
     add-k
     loop-less
     loop-again

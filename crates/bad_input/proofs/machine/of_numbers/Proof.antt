@@ -1,9 +1,9 @@
--- `refusals::lend::of_numbers` meets its contract: so many numbers are there.
+-- `bad_input::machine::of_numbers` meets its contract: so many numbers are there.
 use mathlib.Core.Path.{sym}
 use borrow.Author.Needs.{needs}
 use lib.Seq.{length-take-le}
-use Rattle.refusals.proofs.lend.of_numbers.Statement.{statement}
-use Rattle.refusals.proofs.lend.of_numbers.Tie as tie
+use Rattle.bad_input.proofs.machine.of_numbers.Statement.{statement}
+use Rattle.bad_input.proofs.machine.of_numbers.Tie as tie
 
 returns : tie.Need-returns
 returns c = (search needs, sym (length-take-le _ _ (search needs)))

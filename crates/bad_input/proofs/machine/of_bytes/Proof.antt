@@ -1,9 +1,9 @@
--- `refusals::lend::of_bytes` meets its contract: so many bytes are there.
+-- `bad_input::machine::of_bytes` meets its contract: so many bytes are there.
 use mathlib.Core.Path.{sym}
 use borrow.Author.Needs.{needs}
 use lib.Seq.{length-take-le}
-use Rattle.refusals.proofs.lend.of_bytes.Statement.{statement}
-use Rattle.refusals.proofs.lend.of_bytes.Tie as tie
+use Rattle.bad_input.proofs.machine.of_bytes.Statement.{statement}
+use Rattle.bad_input.proofs.machine.of_bytes.Tie as tie
 
 returns : tie.Need-returns
 returns c = (search needs, sym (length-take-le _ _ (search needs)))

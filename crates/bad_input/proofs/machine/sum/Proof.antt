@@ -1,15 +1,14 @@
--- `refusals::calls::sum` meets its contract: the loop stays inside the slice, and ends.
+-- `bad_input::machine::sum` meets its contract: the loop ends, and stays inside what it reads.
 use Prim.Native.Nat.{_≤_, _-_}
 use borrow.Author.Needs.{needs}
-use lib.ListN.{length}
-use Rattle.refusals.proofs.calls.sum.Statement.{statement}
-use Rattle.refusals.proofs.calls.sum.Tie as tie
+use Rattle.bad_input.proofs.machine.sum.Statement.{statement}
+use Rattle.bad_input.proofs.machine.sum.Tie as tie
 
 abbrev Inv-loop : tie.InvT-loop
-Inv-loop first numbers total₀ i₀ total i = i ≤ length numbers
+Inv-loop first numbers total₀ i₀ i-end total i = i ≤ i-end
 
 abbrev μ-loop : tie.MeasureT-loop
-μ-loop first numbers total₀ i₀ total i = length numbers - i
+μ-loop first numbers total₀ i₀ i-end total i = i-end - i
 
 loop-holds : tie.Need-loop-holds Inv-loop μ-loop
 loop-holds c = search needs
@@ -36,4 +35,16 @@ returns : tie.Need-returns Inv-loop μ-loop
 returns c = search needs
 
 pub sum-spec : {M : Type 1} → statement M
-sum-spec = tie.close (tie.spec Inv-loop μ-loop loop-holds mul-add shared-slice-read-add add-requires add-i loop-less loop-again returns)
+sum-spec =
+    tie.close
+    (tie.spec
+    Inv-loop
+    μ-loop
+    loop-holds
+    mul-add
+    shared-slice-read-add
+    add-requires
+    add-i
+    loop-less
+    loop-again
+    returns)

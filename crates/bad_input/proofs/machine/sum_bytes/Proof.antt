@@ -1,15 +1,14 @@
--- `refusals::calls::sum_bytes` meets its contract: the loop stays inside the slice, and ends.
+-- `bad_input::machine::sum_bytes` meets its contract: the loop ends, and stays inside what it reads.
 use Prim.Native.Nat.{_≤_, _-_}
 use borrow.Author.Needs.{needs}
-use lib.ListN.{length}
-use Rattle.refusals.proofs.calls.sum_bytes.Statement.{statement}
-use Rattle.refusals.proofs.calls.sum_bytes.Tie as tie
+use Rattle.bad_input.proofs.machine.sum_bytes.Statement.{statement}
+use Rattle.bad_input.proofs.machine.sum_bytes.Tie as tie
 
 abbrev Inv-loop : tie.InvT-loop
-Inv-loop first bytes total₀ i₀ total i = i ≤ length bytes
+Inv-loop first bytes total₀ i₀ i-end total i = i ≤ i-end
 
 abbrev μ-loop : tie.MeasureT-loop
-μ-loop first bytes total₀ i₀ total i = length bytes - i
+μ-loop first bytes total₀ i₀ i-end total i = i-end - i
 
 loop-holds : tie.Need-loop-holds Inv-loop μ-loop
 loop-holds c = search needs
@@ -33,4 +32,15 @@ returns : tie.Need-returns Inv-loop μ-loop
 returns c = search needs
 
 pub sum-bytes-spec : {M : Type 1} → statement M
-sum-bytes-spec = tie.close (tie.spec Inv-loop μ-loop loop-holds shared-slice-read-add-byte add-byte-requires add-i loop-less loop-again returns)
+sum-bytes-spec =
+    tie.close
+    (tie.spec
+    Inv-loop
+    μ-loop
+    loop-holds
+    shared-slice-read-add-byte
+    add-byte-requires
+    add-i
+    loop-less
+    loop-again
+    returns)
