@@ -33,11 +33,7 @@ isNumeric kind = among kind (ILLEGAL ∷ INT ∷ FLOAT ∷ IMAG ∷ [])
 -- what a spelling tells of the first n characters: a prefix in upper case that is no E, a 0, an E
 abbrev pub Spelled : Spelling → List Char → ℕ → Type 0
 Spelled AsRead r n = Unit
-<<<<<<< HEAD
-Spelled LowerPrefix r n = (2 ≤ n) × (between (code "A") (getD r 1 ended .code) (code "Z") ≡ true)
-=======
-Spelled LowerPrefix r n = (2 ≤ n) × (between 65 (getD r 1 ended .code) 90 ≡ true) × (getD r 1 ended .code ≢ 69)
->>>>>>> h-lexer
+Spelled LowerPrefix r n = (2 ≤ n) × (between (code "A") (getD r 1 ended .code) (code "Z") ≡ true) × (getD r 1 ended .code ≢ code "E")
 Spelled OctalPrefix r n = 1 ≤ n
 Spelled LowerExponent r n = (i : ℕ) × (i < n) × (getD r i ended .code ≡ code "E")
 
@@ -184,21 +180,12 @@ module _ (r : List Char) where
       zero-read : Read (leadingZero r)
       unfolding leadingZero
       zero-read =
-<<<<<<< HEAD
           cond-ind Read (eqb (peek (drop 1 r)) (code "x")) _ _ (letter-read (code "x") 16 BAD-HEXADECIMAL AsRead (lit< tt) (lit< tt) (λ z. omega arith) (lit≤ tt) (λ _. tt))
-          (λ _. cond-ind Read (eqb (peek (drop 1 r)) (code "X")) _ _ (letter-read (code "X") 16 BAD-HEXADECIMAL LowerPrefix (lit< tt) (lit< tt) (λ z. omega arith) (lit≤ tt) (λ z. (lit≤ tt, rw z)))
+          (λ _. cond-ind Read (eqb (peek (drop 1 r)) (code "X")) _ _ (letter-read (code "X") 16 BAD-HEXADECIMAL LowerPrefix (lit< tt) (lit< tt) (λ z. omega arith) (lit≤ tt) (λ z. (lit≤ tt, rw z, λ e. omega (arith, z, e))))
           (λ _. cond-ind Read (eqb (peek (drop 1 r)) (code "o")) _ _ (letter-read (code "o") 8 BAD-OCTAL AsRead (lit< tt) (lit< tt) (λ z. omega arith) (lit≤ tt) (λ _. tt))
-          (λ _. cond-ind Read (eqb (peek (drop 1 r)) (code "O")) _ _ (letter-read (code "O") 8 BAD-OCTAL LowerPrefix (lit< tt) (lit< tt) (λ z. omega arith) (lit≤ tt) (λ z. (lit≤ tt, rw z)))
+          (λ _. cond-ind Read (eqb (peek (drop 1 r)) (code "O")) _ _ (letter-read (code "O") 8 BAD-OCTAL LowerPrefix (lit< tt) (lit< tt) (λ z. omega arith) (lit≤ tt) (λ z. (lit≤ tt, rw z, λ e. omega (arith, z, e))))
           (λ _. cond-ind Read (eqb (peek (drop 1 r)) (code "b")) _ _ (letter-read (code "b") 2 BAD-BINARY AsRead (lit< tt) (lit< tt) (λ z. omega arith) (lit≤ tt) (λ _. tt))
-          (λ _. cond-ind Read (eqb (peek (drop 1 r)) (code "B")) _ _ (letter-read (code "B") 2 BAD-BINARY LowerPrefix (lit< tt) (lit< tt) (λ z. omega arith) (lit≤ tt) (λ z. (lit≤ tt, rw z))) (λ _. bare-read))))))
-=======
-          cond-ind Read (eqb (peek (drop 1 r)) 120) _ _ (letter-read 120 16 3 AsRead (lit< tt) (lit< tt) (λ z. omega arith) (lit≤ tt) (λ _. tt))
-          (λ _. cond-ind Read (eqb (peek (drop 1 r)) 88) _ _ (letter-read 88 16 3 LowerPrefix (lit< tt) (lit< tt) (λ z. omega arith) (lit≤ tt) (λ z. (lit≤ tt, rw z, λ e. omega (arith, z, e))))
-          (λ _. cond-ind Read (eqb (peek (drop 1 r)) 111) _ _ (letter-read 111 8 2 AsRead (lit< tt) (lit< tt) (λ z. omega arith) (lit≤ tt) (λ _. tt))
-          (λ _. cond-ind Read (eqb (peek (drop 1 r)) 79) _ _ (letter-read 79 8 2 LowerPrefix (lit< tt) (lit< tt) (λ z. omega arith) (lit≤ tt) (λ z. (lit≤ tt, rw z, λ e. omega (arith, z, e))))
-          (λ _. cond-ind Read (eqb (peek (drop 1 r)) 98) _ _ (letter-read 98 2 1 AsRead (lit< tt) (lit< tt) (λ z. omega arith) (lit≤ tt) (λ _. tt))
-          (λ _. cond-ind Read (eqb (peek (drop 1 r)) 66) _ _ (letter-read 66 2 1 LowerPrefix (lit< tt) (lit< tt) (λ z. omega arith) (lit≤ tt) (λ z. (lit≤ tt, rw z, λ e. omega (arith, z, e)))) (λ _. bare-read))))))
->>>>>>> h-lexer
+          (λ _. cond-ind Read (eqb (peek (drop 1 r)) (code "B")) _ _ (letter-read (code "B") 2 BAD-BINARY LowerPrefix (lit< tt) (lit< tt) (λ z. omega arith) (lit≤ tt) (λ z. (lit≤ tt, rw z, λ e. omega (arith, z, e)))) (λ _. bare-read))))))
 
   pub without-read : Read (withoutI r)
   unfolding withoutI
