@@ -8,7 +8,7 @@ use Rattle.basics.specs.Between.{between}
 use Rattle.numbers.specs.declared.Spelling.{Spelling}
 use Rattle.numbers.specs.declared.Spelling.the-variants.{AsRead, LowerPrefix, OctalPrefix, LowerExponent}
 
--- a letter in lower case
+-- a letter in lower case, which stands 32 codes behind its upper case
 abbrev pub lower : ℕ → ℕ
 lower b = cond (between (code "A") b (code "Z")) (b + 32) b
 

@@ -170,19 +170,14 @@ fn scan_zero(src: &[u8], at: usize) -> Number
     ensures { λ r. ⌜ r ≡ numberAt at (leadingZero (chars (drop at (now (src .entry))))) ⌝ }
 {
     let b = utf8::byte(src, at + 1);
+    let p = at + 2;
     match b {
-        b'x' => scan_prefixed(src, at + 2, 16, errors::BAD_HEXADECIMAL, Spelling::AsRead),
-        b'X' => scan_prefixed(
-            src,
-            at + 2,
-            16,
-            errors::BAD_HEXADECIMAL,
-            Spelling::LowerPrefix,
-        ),
-        b'o' => scan_prefixed(src, at + 2, 8, errors::BAD_OCTAL, Spelling::AsRead),
-        b'O' => scan_prefixed(src, at + 2, 8, errors::BAD_OCTAL, Spelling::LowerPrefix),
-        b'b' => scan_prefixed(src, at + 2, 2, errors::BAD_BINARY, Spelling::AsRead),
-        b'B' => scan_prefixed(src, at + 2, 2, errors::BAD_BINARY, Spelling::LowerPrefix),
+        b'x' => scan_prefixed(src, p, 16, errors::BAD_HEXADECIMAL, Spelling::AsRead),
+        b'X' => scan_prefixed(src, p, 16, errors::BAD_HEXADECIMAL, Spelling::LowerPrefix),
+        b'o' => scan_prefixed(src, p, 8, errors::BAD_OCTAL, Spelling::AsRead),
+        b'O' => scan_prefixed(src, p, 8, errors::BAD_OCTAL, Spelling::LowerPrefix),
+        b'b' => scan_prefixed(src, p, 2, errors::BAD_BINARY, Spelling::AsRead),
+        b'B' => scan_prefixed(src, p, 2, errors::BAD_BINARY, Spelling::LowerPrefix),
         _ => scan_bare_zero(src, at),
     }
 }

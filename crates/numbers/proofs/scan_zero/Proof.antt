@@ -23,38 +23,25 @@ add-byte c = let a = c .before .args in omega (arith, reach (a .src .now) (a .at
 byte-requires : tie.Need-byte-requires
 byte-requires c κs = search needs
 
-add-scan-prefixed : tie.Need-add-scan-prefixed
-add-scan-prefixed c = let a = c .before .before .before .args in omega (arith, reach (a .src .now) (a .at + 1) (omega (arith, c .before .byte .ensures, c .match .keys1)))
+add-p : tie.Need-add-p
+add-p c =
+    let i = c .before .before in
+    omega (arith, reach (i .args .src .now) (i .args .at) (omega (arith, i .pre)))
 
 scan-prefixed-requires : tie.Need-scan-prefixed-requires
 scan-prefixed-requires c κs = search needs
 
-add-scan-prefixed-2 : tie.Need-add-scan-prefixed-2
-add-scan-prefixed-2 c = let a = c .before .before .before .args in omega (arith, reach (a .src .now) (a .at + 1) (omega (arith, c .before .byte .ensures, c .match .keys2)))
-
 scan-prefixed-requires-2 : tie.Need-scan-prefixed-requires-2
 scan-prefixed-requires-2 c κs = search needs
-
-add-scan-prefixed-3 : tie.Need-add-scan-prefixed-3
-add-scan-prefixed-3 c = let a = c .before .before .before .args in omega (arith, reach (a .src .now) (a .at + 1) (omega (arith, c .before .byte .ensures, c .match .keys3)))
 
 scan-prefixed-requires-3 : tie.Need-scan-prefixed-requires-3
 scan-prefixed-requires-3 c κs = search needs
 
-add-scan-prefixed-4 : tie.Need-add-scan-prefixed-4
-add-scan-prefixed-4 c = let a = c .before .before .before .args in omega (arith, reach (a .src .now) (a .at + 1) (omega (arith, c .before .byte .ensures, c .match .keys4)))
-
 scan-prefixed-requires-4 : tie.Need-scan-prefixed-requires-4
 scan-prefixed-requires-4 c κs = search needs
 
-add-scan-prefixed-5 : tie.Need-add-scan-prefixed-5
-add-scan-prefixed-5 c = let a = c .before .before .before .args in omega (arith, reach (a .src .now) (a .at + 1) (omega (arith, c .before .byte .ensures, c .match .keys5)))
-
 scan-prefixed-requires-5 : tie.Need-scan-prefixed-requires-5
 scan-prefixed-requires-5 c κs = search needs
-
-add-scan-prefixed-6 : tie.Need-add-scan-prefixed-6
-add-scan-prefixed-6 c = let a = c .before .before .before .args in omega (arith, reach (a .src .now) (a .at + 1) (omega (arith, c .before .byte .ensures, c .match .keys6)))
 
 scan-prefixed-requires-6 : tie.Need-scan-prefixed-requires-6
 scan-prefixed-requires-6 c κs = search needs
@@ -107,17 +94,12 @@ scan-zero-spec =
     (tie.spec
     add-byte
     byte-requires
-    add-scan-prefixed
+    add-p
     scan-prefixed-requires
-    add-scan-prefixed-2
     scan-prefixed-requires-2
-    add-scan-prefixed-3
     scan-prefixed-requires-3
-    add-scan-prefixed-4
     scan-prefixed-requires-4
-    add-scan-prefixed-5
     scan-prefixed-requires-5
-    add-scan-prefixed-6
     scan-prefixed-requires-6
     scan-bare-zero-requires
     returns
