@@ -14,7 +14,7 @@ use Rattle.utf8.proofs.First.{chars-end}
 use Rattle.quotes.proofs.Given.{enum}
 use Rattle.quotes.specs.declared.Given.{Given}
 use Rattle.quotes.specs.declared.Given.the-variants.{Value, Bad}
-use Rattle.quotes.specs.Answers.{Meaning, character, noCharacter, Escape, meaningOf, bytesOf}
+use Rattle.quotes.specs.Answers.{Meaning, character, Escape, meaningOf, bytesOf}
 use Rattle.quotes.specs.Escape.{escapeOf}
 use Rattle.quotes.specs.Body.{Body, escape, bodyFrom, body}
 use Rattle.quotes.proofs.Reading.{escape-byte, at-quote, at-lf, at-slash, at-plain}
