@@ -549,7 +549,7 @@ static void all_lengths(size_t state, size_t token)
     call_part(&w, SCANNER_TOKEN_VALUE_IN_AREA);
     check(call_scan(&w) == (state < SCANNER_STATE_LEN || token < SCANNER_TOKEN_LEN ? SCANNER_DOES_NOT_FIT : SCANNER_OK),
           "a length at a scan");
-    check(call_many(&w) == (state < SCANNER_STATE_LEN || token < 1 ? SCANNER_DOES_NOT_FIT : SCANNER_OK),
+    check(call_many(&w) == (state < SCANNER_STATE_LEN || token < SCANNER_TOKEN_LEN ? SCANNER_DOES_NOT_FIT : SCANNER_OK),
           "a length at many scans");
     drop_all(&w);
 }
@@ -575,7 +575,9 @@ static void small_buffers(size_t table, size_t list, size_t area)
         check(call_open(&w, 0, 6) == SCANNER_TABLE_FULL, "no table at opening");
     } else {
         check(call_open(&w, 0, 6) == SCANNER_OK, "a table at opening");
-        check(call_many(&w) == expected, "the first buffer that is too small for many scans");
+        check(call_many(&w) == SCANNER_OK, "the first token, which needs none of them");
+        if (expected != SCANNER_OK)
+            check(call_many(&w) == expected, "the first buffer that is too small for many scans");
         check(numbers_of(&w.answer)[0] == (expected == SCANNER_OK ? 2 : 1), "a token before it, or one more");
         call_open(&w, 0, 6);
         check(call_scan(&w) == SCANNER_OK, "a token that needs nothing");
@@ -623,7 +625,7 @@ int main(int argc, char **argv)
         one_round();
     printf("%lu rounds, %lu calls, %lu accepted, ", rounds, calls, answers[0]);
     printf("%lu of them scans, %lu many scans; ", scanned, batches);
-    printf("%lu many scans refused behind some tokens; refused by", cut);
+    printf("%lu many scans stopped before a refusal; refused by", cut);
     for (i = 1; i < ANSWERS; i++)
         printf("%s %d: %lu", i == 1 ? "" : ",", i, answers[i]);
     printf("; %lu checks failed\n", failed);

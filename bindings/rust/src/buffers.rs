@@ -21,7 +21,7 @@ impl Buffers {
     /// Buffers that do for most sources of so many bytes.
     pub fn new(source: usize) -> Buffers {
         Buffers {
-            table: vec![0; source / 16 + 1],
+            table: vec![0; source / 16 + 8],
             list: vec![0; 8 * RECORD],
             area: vec![0; 512],
             tokens: Vec::new(),

@@ -73,10 +73,11 @@ fn a_batch_ends_behind_a_changed_text_or_value() {
 }
 
 #[test]
-fn buffers_that_grow_behind_some_tokens() {
-    assert_eq!(check(("x +".to_string() + &"\n".repeat(1_000) + "y").as_bytes()), [5]);
-    assert_eq!(check("x ''\n".repeat(80).as_bytes()), [241]);
-    assert_eq!(check(format!("x + `{}`", "a\r\n".repeat(1_000)).as_bytes()), [3, 2]);
+fn a_batch_ends_where_a_buffer_has_to_grow() {
+    assert_eq!(check(("x +".to_string() + &"\n".repeat(1_000) + "y").as_bytes()), [2, 3]);
+    assert_eq!(check(format!("x + `{}`", "a\r\n".repeat(1_000)).as_bytes()), [2, 1, 2]);
+    let lengths = check("x ''\n".repeat(80).as_bytes());
+    assert!(lengths.len() > 2 && lengths.iter().sum::<usize>() == 241);
     check("\n0'".repeat(600).as_bytes());
 }
 
