@@ -13,7 +13,7 @@ use Rattle.utf8.specs.Chars.{peek}
 use Rattle.kinds.specs.Kinds.{ILLEGAL}
 use Rattle.digits.specs.Digit.{digitVal, isDecimal}
 use Rattle.numbers.specs.Run.{digitRun, strictRun}
-use Rattle.numbers.specs.Number.{Reading, fraction, withoutI, number}
+use Rattle.numbers.specs.Number.{Numeral, fraction, withoutI, number}
 use Rattle.numbers.proofs.Tested.{number-some}
 use Rattle.lexer.specs.Making.{isNumber}
 
@@ -36,15 +36,15 @@ fraction-some : (r : List Char) → isDecimal (peek r) ≡ true → 0 < fraction
 unfolding fraction
 fraction-some r e =
     let some = strict-some r e in
-    cond-ind (λ (x : Reading). 0 < x .len) (strictRun 10 r .misplaced) _ _ (λ _. some) (λ _. omega (arith, some))
+    cond-ind (λ (x : Numeral). 0 < x .len) (strictRun 10 r .misplaced) _ _ (λ _. some) (λ _. omega (arith, some))
 
 pub two-read : (r : List Char) → isNumber r ≡ true → isDecimal (peek r) ≡ false → 1 < number r .len
 unfolding number
 two-read r t d =
     let x = withoutI r in
     let two = point (and-split (eqb (peek r) 46) (isDecimal (peek (drop 1 r))) (rw d at t)) in
-    cond-ind (λ (y : Reading). 1 < y .len) (eqb (x .kind) ILLEGAL) _ _ (λ _. two)
-    (λ _. cond-ind (λ (y : Reading). 1 < y .len) (eqb (peek (drop (x .len) r)) 105) _ _ (λ _. omega (arith, two)) (λ _. two))
+    cond-ind (λ (y : Numeral). 1 < y .len) (eqb (x .kind) ILLEGAL) _ _ (λ _. two)
+    (λ _. cond-ind (λ (y : Numeral). 1 < y .len) (eqb (peek (drop (x .len) r)) 105) _ _ (λ _. omega (arith, two)) (λ _. two))
   where
     point : (eqb (peek r) 46 ≡ true) × (isDecimal (peek (drop 1 r)) ≡ true) → 1 < withoutI r .len
     point q = unfold withoutI in rw (q .0) (omega (arith, fraction-some (drop 1 r) (q .1)))
