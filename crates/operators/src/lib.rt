@@ -97,7 +97,6 @@ pub fn scan_operator(src: &[u8], at: usize) -> Operator
     let a = src[at];
     let next = at + 1;
     let b = utf8::byte(src, next);
-    let c = utf8::byte(src, next + 1);
     match a {
         b'+' => scan_switch3(b, kinds::ADD, kinds::ADD_ASSIGN, b'+', kinds::INC),
         b'-' => scan_switch3(b, kinds::SUB, kinds::SUB_ASSIGN, b'-', kinds::DEC),
@@ -109,10 +108,10 @@ pub fn scan_operator(src: &[u8], at: usize) -> Operator
         b'!' => scan_switch2(b, kinds::NOT, kinds::NEQ),
         b'=' => scan_switch2(b, kinds::ASSIGN, kinds::EQL),
         b':' => scan_switch2(b, kinds::COLON, kinds::DEFINE),
-        b'<' => scan_less(b, c),
-        b'>' => scan_greater(b, c),
-        b'&' => scan_and(b, c),
-        b'.' => scan_period(b, c),
+        b'<' => scan_less(b, utf8::byte(src, next + 1)),
+        b'>' => scan_greater(b, utf8::byte(src, next + 1)),
+        b'&' => scan_and(b, utf8::byte(src, next + 1)),
+        b'.' => scan_period(b, utf8::byte(src, next + 1)),
         b'(' => op(kinds::LPAREN, 1),
         b'[' => op(kinds::LBRACK, 1),
         b'{' => op(kinds::LBRACE, 1),

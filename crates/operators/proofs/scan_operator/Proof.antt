@@ -1,5 +1,5 @@
 -- `operators::scan_operator` meets its contract: an arm for each first code of the table; its rows are computed.
-use Prim.Native.Nat.{ℕ}
+use Prim.Native.Nat.{ℕ, _+_}
 use Prim.Native.Char.{code}
 use mathlib.Core.Path.{_≡_, refl, ap, ap₂, _∙_}
 use mathlib.Core.List.{List, [], _∷_}
@@ -31,12 +31,6 @@ add-next c = search needs
 byte-requires : tie.Need-byte-requires
 byte-requires c κs = search needs
 
-add-byte : tie.Need-add-byte
-add-byte c = search needs
-
-byte-requires-2 : tie.Need-byte-requires-2
-byte-requires-2 c κs = search needs
-
 scan-switch3-requires : tie.Need-scan-switch3-requires
 scan-switch3-requires c κs = search needs
 
@@ -67,14 +61,38 @@ scan-switch2-requires-6 c κs = search needs
 scan-switch2-requires-7 : tie.Need-scan-switch2-requires-7
 scan-switch2-requires-7 c κs = search needs
 
+add-byte : tie.Need-add-byte
+add-byte c = search needs
+
+byte-requires-2 : tie.Need-byte-requires-2
+byte-requires-2 c κs = search needs
+
 scan-less-requires : tie.Need-scan-less-requires
 scan-less-requires c κs = search needs
+
+add-byte-2 : tie.Need-add-byte-2
+add-byte-2 c = search needs
+
+byte-requires-3 : tie.Need-byte-requires-3
+byte-requires-3 c κs = search needs
 
 scan-greater-requires : tie.Need-scan-greater-requires
 scan-greater-requires c κs = search needs
 
+add-byte-3 : tie.Need-add-byte-3
+add-byte-3 c = search needs
+
+byte-requires-4 : tie.Need-byte-requires-4
+byte-requires-4 c κs = search needs
+
 scan-and-requires : tie.Need-scan-and-requires
 scan-and-requires c κs = search needs
+
+add-byte-4 : tie.Need-add-byte-4
+add-byte-4 c = search needs
+
+byte-requires-5 : tie.Need-byte-requires-5
+byte-requires-5 c κs = search needs
 
 scan-period-requires : tie.Need-scan-period-requires
 scan-period-requires c κs = search needs
@@ -106,13 +124,13 @@ op-requires-9 c κs = search needs
 op-requires-10 : tie.Need-op-requires-10
 op-requires-10 c κs = search needs
 
--- ---- the laws of the first byte, where the next two were read
-module _ (c : tie.After-byte2) where
+-- ---- the laws of the first byte, where the next one was read
+module _ (c : tie.After-byte) where
   abbrev text : List ℕ
-  text = c .before .before .before .before .before .args .src .now
+  text = c .before .before .before .before .args .src .now
 
   abbrev place : ℕ
-  place = c .before .before .before .before .before .args .at
+  place = c .before .before .before .before .args .at
 
   abbrev found : Operator
   found = operatorOf (chars (drop place text))
@@ -121,27 +139,27 @@ module _ (c : tie.After-byte2) where
     one-here : (k : ℕ) → among a operators ≡ row k (a ∷ []) ∷ [] → op k 1 ≡ found
     one-here = one-is text place a e
 
-    switch2-here : (k l : ℕ) → among a operators ≡ row k (a ∷ []) ∷ row l (a ∷ code "=" ∷ []) ∷ [] → switch2 (c .before .byte .result) k l ≡ found
-    switch2-here k l w = ap (λ b. switch2 b k l) (c .before .byte .ensures) ∙ switch2-is text place a e k l w
+    switch2-here : (k l : ℕ) → among a operators ≡ row k (a ∷ []) ∷ row l (a ∷ code "=" ∷ []) ∷ [] → switch2 (c .byte .result) k l ≡ found
+    switch2-here k l w = ap (λ b. switch2 b k l) (c .byte .ensures) ∙ switch2-is text place a e k l w
 
-    switch2-last-here : (k l : ℕ) → among a operators ≡ row l (a ∷ code "=" ∷ []) ∷ row k (a ∷ []) ∷ [] → switch2 (c .before .byte .result) k l ≡ found
-    switch2-last-here k l w = ap (λ b. switch2 b k l) (c .before .byte .ensures) ∙ switch2-last-is text place a e k l w
+    switch2-last-here : (k l : ℕ) → among a operators ≡ row l (a ∷ code "=" ∷ []) ∷ row k (a ∷ []) ∷ [] → switch2 (c .byte .result) k l ≡ found
+    switch2-last-here k l w = ap (λ b. switch2 b k l) (c .byte .ensures) ∙ switch2-last-is text place a e k l w
 
     switch3-here : (k l m x : ℕ) → among a operators ≡ row k (a ∷ []) ∷ row l (a ∷ code "=" ∷ []) ∷ row m (a ∷ x ∷ []) ∷ []
-        → switch3 (c .before .byte .result) k l x m ≡ found
-    switch3-here k l m x w = ap (λ b. switch3 b k l x m) (c .before .byte .ensures) ∙ switch3-is text place a e k l m x w
+        → switch3 (c .byte .result) k l x m ≡ found
+    switch3-here k l m x w = ap (λ b. switch3 b k l x m) (c .byte .ensures) ∙ switch3-is text place a e k l m x w
 
-  less-here : getD text place 0 ≡ code "<" → lessBy (c .before .byte .result) (c .byte2 .result) ≡ found
-  less-here e = ap₂ lessBy (c .before .byte .ensures) (c .byte2 .ensures) ∙ less-is text place e
+  less-here : (x : ℕ) → x ≡ getD text (place + 1 + 1) 0 → getD text place 0 ≡ code "<" → lessBy (c .byte .result) x ≡ found
+  less-here x t e = ap₂ lessBy (c .byte .ensures) t ∙ less-is text place e
 
-  greater-here : getD text place 0 ≡ code ">" → greaterBy (c .before .byte .result) (c .byte2 .result) ≡ found
-  greater-here e = ap₂ greaterBy (c .before .byte .ensures) (c .byte2 .ensures) ∙ greater-is text place e
+  greater-here : (x : ℕ) → x ≡ getD text (place + 1 + 1) 0 → getD text place 0 ≡ code ">" → greaterBy (c .byte .result) x ≡ found
+  greater-here x t e = ap₂ greaterBy (c .byte .ensures) t ∙ greater-is text place e
 
-  and-here : getD text place 0 ≡ code "&" → andBy (c .before .byte .result) (c .byte2 .result) ≡ found
-  and-here e = ap₂ andBy (c .before .byte .ensures) (c .byte2 .ensures) ∙ and-is text place e
+  and-here : (x : ℕ) → x ≡ getD text (place + 1 + 1) 0 → getD text place 0 ≡ code "&" → andBy (c .byte .result) x ≡ found
+  and-here x t e = ap₂ andBy (c .byte .ensures) t ∙ and-is text place e
 
-  period-here : getD text place 0 ≡ code "." → periodBy (c .before .byte .result) (c .byte2 .result) ≡ found
-  period-here e = ap₂ periodBy (c .before .byte .ensures) (c .byte2 .ensures) ∙ period-is text place e
+  period-here : (x : ℕ) → x ≡ getD text (place + 1 + 1) 0 → getD text place 0 ≡ code "." → periodBy (c .byte .result) x ≡ found
+  period-here x t e = ap₂ periodBy (c .byte .ensures) t ∙ period-is text place e
 
   none-here : NotIn (getD text place 0) firsts → none ≡ found
   none-here = none-is text place
@@ -187,16 +205,16 @@ unfolding operators
 returns-11 c = c .scan-switch27 .ensures ∙ switch2-last-here (c .before .before) (code ":") (c .before .match .keys10) COLON DEFINE refl
 
 returns-12 : tie.Need-returns-12
-returns-12 c = c .scan-less .ensures ∙ less-here (c .before .before) (c .before .match .keys11)
+returns-12 c = c .scan-less .ensures ∙ less-here (c .before .before .before) _ (c .before .byte2 .ensures) (c .before .before .match .keys11)
 
 returns-13 : tie.Need-returns-13
-returns-13 c = c .scan-greater .ensures ∙ greater-here (c .before .before) (c .before .match .keys12)
+returns-13 c = c .scan-greater .ensures ∙ greater-here (c .before .before .before) _ (c .before .byte3 .ensures) (c .before .before .match .keys12)
 
 returns-14 : tie.Need-returns-14
-returns-14 c = c .scan-and .ensures ∙ and-here (c .before .before) (c .before .match .keys13)
+returns-14 c = c .scan-and .ensures ∙ and-here (c .before .before .before) _ (c .before .byte4 .ensures) (c .before .before .match .keys13)
 
 returns-15 : tie.Need-returns-15
-returns-15 c = c .scan-period .ensures ∙ period-here (c .before .before) (c .before .match .keys14)
+returns-15 c = c .scan-period .ensures ∙ period-here (c .before .before .before) _ (c .before .byte5 .ensures) (c .before .before .match .keys14)
 
 returns-16 : tie.Need-returns-16
 unfolding operators
@@ -242,8 +260,6 @@ scan-operator-spec =
     shared-slice-read-a
     add-next
     byte-requires
-    add-byte
-    byte-requires-2
     scan-switch3-requires
     scan-switch3-requires-2
     scan-switch3-requires-3
@@ -254,9 +270,17 @@ scan-operator-spec =
     scan-switch2-requires-5
     scan-switch2-requires-6
     scan-switch2-requires-7
+    add-byte
+    byte-requires-2
     scan-less-requires
+    add-byte-2
+    byte-requires-3
     scan-greater-requires
+    add-byte-3
+    byte-requires-4
     scan-and-requires
+    add-byte-4
+    byte-requires-5
     scan-period-requires
     op-requires-2
     op-requires-3
