@@ -19,7 +19,7 @@ use Rattle.digits.specs.Digit.{isDecimal}
 use Rattle.kinds.specs.Kinds.{EOF}
 use Rattle.words.specs.Word.{isLetter}
 use Rattle.words.proofs.Words.{letter-high}
-use Rattle.lexer.specs.Lexeme.{Lexeme, bare, insertedSemicolon}
+use Rattle.lexer.specs.Lexeme.{bare, insertedSemicolon}
 use Rattle.lexer.specs.Words.{lexWord, lexNumber}
 use Rattle.lexer.specs.Quotes.{lexString, lexChar, lexRaw}
 use Rattle.lexer.specs.Comments.{lexComment}
