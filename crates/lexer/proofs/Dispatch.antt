@@ -19,18 +19,14 @@ use Rattle.digits.specs.Digit.{isDecimal}
 use Rattle.kinds.specs.Kinds.{EOF}
 use Rattle.words.specs.Word.{isLetter}
 use Rattle.words.proofs.Words.{letter-high}
-use Rattle.lexer.specs.Lexeme.{Lexeme, bare, insertedSemicolon}
+use Rattle.lexer.specs.Lexeme.{bare, insertedSemicolon}
 use Rattle.lexer.specs.Words.{lexWord, lexNumber}
 use Rattle.lexer.specs.Quotes.{lexString, lexChar, lexRaw}
 use Rattle.lexer.specs.Comments.{lexComment}
-use Rattle.lexer.specs.Lex.{lexIllegal, lexOperator, lexDot, lexSlash, lexBy, lexToken}
+use Rattle.lexer.specs.Lex.{lexIllegal, lexOperator, lexDot, lexSlash, lexOther, lexBy, lexToken}
 use Rattle.lexer.specs.Making.{isNumber, isRaw}
 use Rattle.lexer.proofs.Ascii.{Ascii}
 use Rattle.lexer.proofs.Ways.{decimal-high}
-
--- a token that is no word, number or literal, by its first byte
-abbrev pub otherBy : Bool → ℕ → List Char → Lexeme
-otherBy mark b r = cond (eqb b 46) (lexDot mark r) (cond (eqb b 47) (lexSlash mark r) (lexOperator mark r))
 
 -- ---- no character above 127 has a rule of its own
 high-by : (mark : Bool) (c : ℕ) (r : List Char) → 0x80 ≤ c → lexBy mark c r ≡ lexOperator mark r
@@ -77,7 +73,7 @@ module _ (mark : Bool) (r : List Char) where
   unfolding lexBy isLetter
   dot-by = refl
 
-  other-by : (b : ℕ) → isLetter b ≡ false → isDecimal b ≡ false → b ≢ 10 → b ≢ 34 → b ≢ 39 → b ≢ 96 → lexBy mark b r ≡ otherBy mark b r
+  other-by : (b : ℕ) → isLetter b ≡ false → isDecimal b ≡ false → b ≢ 10 → b ≢ 34 → b ≢ 39 → b ≢ 96 → lexBy mark b r ≡ lexOther mark b r
   unfolding lexBy
   other-by b l d f s c w = rw (l, d, ne-eqb b 10 f, ne-eqb b 34 s, ne-eqb b 39 c, ne-eqb b 96 w)
 
@@ -126,7 +122,7 @@ module _ (mark : Bool) (s : List ℕ) (at : ℕ) (h : at < length s) where
 
   pub other-is : isLetter (getD s at 0) ≡ false → isDecimal (getD s at 0) ≡ false
       → getD s at 0 ≢ 10 → getD s at 0 ≢ 34 → getD s at 0 ≢ 39 → getD s at 0 ≢ 96
-      → otherBy mark (getD s at 0) (chars (drop at s)) ≡ lexToken mark (chars (drop at s))
+      → lexOther mark (getD s at 0) (chars (drop at s)) ≡ lexToken mark (chars (drop at s))
   other-is l d f q c w = sym (by-byte ∙ other-by mark (chars (drop at s)) (getD s at 0) l d f q c w)
 
   -- ---- by the next byte
@@ -172,7 +168,7 @@ module _ (mark : Bool) (s : List ℕ) (at : ℕ) (h : at < length s) where
         (either (isDecimal (getD s at 0)))
 
     pub comment-is : eqb (getD s at 0) 47 && (eqb second 47 || eqb second 42) ≡ true
-        → lexComment mark (chars (drop at s)) ≡ otherBy mark (getD s at 0) (chars (drop at s))
+        → lexComment mark (chars (drop at s)) ≡ lexOther mark (getD s at 0) (chars (drop at s))
     comment-is t =
         let q = and-split (eqb (getD s at 0) 47) (eqb second 47 || eqb second 42) t in
         let e = eqb-true (getD s at 0) 47 (q .0) in
@@ -181,7 +177,7 @@ module _ (mark : Bool) (s : List ℕ) (at : ℕ) (h : at < length s) where
     -- a point before a digit starts a number
     module _ (no-number : eqb (getD s at 0) 46 && isDecimal second ≡ false) where
       pub points-is : eqb (getD s at 0) 46 && (eqb (getD s (at + 1) 0) 46 && not (eqb (getD s (at + 2) 0) 46)) ≡ true
-          → lexIllegal mark 2 (chars (drop at s)) ≡ otherBy mark (getD s at 0) (chars (drop at s))
+          → lexIllegal mark 2 (chars (drop at s)) ≡ lexOther mark (getD s at 0) (chars (drop at s))
       points-is t =
           let q = and-split (eqb (getD s at 0) 46) (eqb (getD s (at + 1) 0) 46 && not (eqb (getD s (at + 2) 0) 46)) t in
           let e = eqb-true (getD s at 0) 46 (q .0) in
@@ -189,7 +185,7 @@ module _ (mark : Bool) (s : List ℕ) (at : ℕ) (h : at < length s) where
 
       pub operator-is : eqb (getD s at 0) 47 && (eqb second 47 || eqb second 42) ≡ false
           → eqb (getD s at 0) 46 && (eqb (getD s (at + 1) 0) 46 && not (eqb (getD s (at + 2) 0) 46)) ≡ false
-          → lexOperator mark (chars (drop at s)) ≡ otherBy mark (getD s at 0) (chars (drop at s))
+          → lexOperator mark (chars (drop at s)) ≡ lexOther mark (getD s at 0) (chars (drop at s))
       operator-is no-comment no-points =
           ⊎-elim
           (λ (t : eqb (getD s at 0) 46 ≡ true).

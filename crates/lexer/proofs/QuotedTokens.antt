@@ -17,6 +17,7 @@ use Rattle.utf8.specs.Chars.{ended, chars, widths, isStray, encoded}
 use Rattle.utf8.proofs.First.{ascii, chars-le}
 use Rattle.utf8.proofs.Places.{place-fits}
 use Rattle.kinds.specs.Kinds.{ILLEGAL, COMMENT, CHAR, STRING}
+use Rattle.errors.specs.Numbers.{OPEN-RAW-STRING, NOT-ONE-CHARACTER}
 use Rattle.quotes.specs.declared.Quoted.{Quoted}
 use Rattle.quotes.specs.Body.{Body, body, quotedAt, placed as bodyPlaced}
 use Rattle.quotes.proofs.Bodies.{strays-fit, closed-sound}
@@ -131,7 +132,7 @@ module _ (quote : ℕ) (is-quote : Quote quote) (s : List ℕ) (at : ℕ) (there
   literal-said : (q : Quoted) → q ≡ quotedAt quote s (at + 1) → (kind error code : ℕ) (how : Value) (value : List ℕ) (bytes : ℕ) (differs : Bool)
       → eqb kind COMMENT ≡ false → how ≡ cond (eqb kind STRING) Interpreted NoValue
       → valueOf how rest ≡ value → lengthOf bytes (inner .strays) differs ≡ length value
-      → differs ≡ not (same value (cond (eqb kind STRING) (take (size - cond (eqb error 6) 0 1) (drop (at + 1) s)) []))
+      → differs ≡ not (same value (cond (eqb kind STRING) (take (size - cond (eqb error OPEN-RAW-STRING) 0 1) (drop (at + 1) s)) []))
       → said s at (literalAs q at kind error code how bytes differs) ≡ placed s at (lexemeAs (suc (inner .len)) kind error code true (encoded read) value)
   unfolding said placed bodyPlaced
   literal-said q e kind error code how value bytes differs k w v n d =
@@ -164,7 +165,7 @@ module _ (quote : ℕ) (is-quote : Quote quote) (s : List ℕ) (at : ℕ) (there
             sym (text-some (encoded read) (take (widths read) (drop at s)) (omega (arith, read-text))
             ∙ encoded-differs (suc (inner .len)) s at (omega (arith, inside)) ∙ ap (λ k. not (eqb k 0)) (strays-count read ∙ read-strays));
         valueDiffers =
-            d ∙ ap (λ l. not (same value (cond (eqb kind STRING) l []))) (sym (inside-token (eqb error 6) s at (widths read) size read-bytes read-fits));
+            d ∙ ap (λ l. not (same value (cond (eqb kind STRING) l []))) (sym (inside-token (eqb error OPEN-RAW-STRING) s at (widths read) size read-bytes read-fits));
       }))
 
   -- one that has no value
@@ -216,11 +217,11 @@ module _ (s : List ℕ) (at : ℕ) (there : getD s at 0 ≡ 39) (q : Quoted) (is
     unfolding bodyPlaced
     closed = sym (ap (λ (x : Quoted). x .closed) is) ∙ h
 
-    pub char-none : (q .count ≡ 1 → ⊥) → said s at (literalAs q at ILLEGAL 13 0 NoValue 0 false) ≡ placed s at (lexChar (chars (drop at s)))
+    pub char-none : (q .count ≡ 1 → ⊥) → said s at (literalAs q at ILLEGAL NOT-ONE-CHARACTER 0 NoValue 0 false) ≡ placed s at (lexChar (chars (drop at s)))
     unfolding bodyPlaced
     char-none n =
         let m : eqb (body 39 (chars (drop (at + 1) s)) .count) 1 ≡ false = ne-eqb _ 1 (λ z. n (ap (λ (x : Quoted). x .count) is ∙ z)) in
-        literal-bare 39 (inr refl) s at there q is ILLEGAL 13 0 refl refl
+        literal-bare 39 (inr refl) s at there q is ILLEGAL NOT-ONE-CHARACTER 0 refl refl
         ∙ ap (placed s at) (sym (char-body ∙ rw (closed, m)))
 
     pub char-one : q .count ≡ 1 → said s at (literalAs q at CHAR (q .error) (q .code) NoValue 0 false) ≡ placed s at (lexChar (chars (drop at s)))

@@ -16,6 +16,7 @@ use Rattle.utf8.proofs.Ends.{Ends, ends-tail, ends-some, peek-append}
 use Rattle.utf8.proofs.Runs.{run-bound, run-local}
 use Rattle.kinds.specs.Kinds.{ILLEGAL, EOF, IDENT, COMMENT}
 use Rattle.kinds.specs.Table.{identToken, setsMark}
+use Rattle.errors.specs.Numbers.{OPEN-RAW-STRING, OPEN-COMMENT}
 use Rattle.digits.specs.Digit.{isDecimal}
 use Rattle.words.specs.Word.{isLetter, isWord, wordLen}
 use Rattle.words.proofs.Words.{word-run, feed-no-word}
@@ -100,7 +101,7 @@ fine-raw m c r t n =
     let b = stop-spanned 96 r .bound in
     fine-reads m (c ∷ r) (suc (s .len)) _ _ (record { none = refl; len = refl; known = λ e. omega arith; there = refl }) (omega arith) (omega arith)
     (λ h z.
-    let e = closed-if (s .closed) 6 (λ w. w .0 refl) z in (
+    let e = closed-if (s .closed) OPEN-RAW-STRING (λ w. w .0 refl) z in (
       rw (stop-local 96 r t e, e, take-append-le (s .len) r t b, take-append-le (s .len - 1) r t (omega arith)),
       λ _. omega (arith, stop-left 96 r (λ y. omega arith) (ends-tail c r h n) e),
     ))
@@ -122,9 +123,9 @@ module _ (m : Bool) (c d : Char) (r t : List Char) (k : c .code ≢ 10) (j : d .
   fine-general =
       let s = toStarSlash false r in
       let b = slash-spanned false r .bound in
-      fine-reads m (c ∷ d ∷ r) (2 + s .len) _ _ (reads-shown COMMENT (2 + s .len) _ (cond (s .closed) 0 7) m (λ e. omega arith)) (omega arith) (omega arith)
+      fine-reads m (c ∷ d ∷ r) (2 + s .len) _ _ (reads-shown COMMENT (2 + s .len) _ (cond (s .closed) 0 OPEN-COMMENT) m (λ e. omega arith)) (omega arith) (omega arith)
       (λ h z.
-      let e = closed-if (s .closed) 7 (λ w. w .1 refl) z in (
+      let e = closed-if (s .closed) OPEN-COMMENT (λ w. w .1 refl) z in (
         rw (slash-local false r t e, take-append-le (2 + s .len) (c ∷ d ∷ r) t (omega arith)),
         λ _. omega (arith, slash-left false r (behind h) e),
       ))

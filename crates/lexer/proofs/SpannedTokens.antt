@@ -12,6 +12,7 @@ use Rattle.utf8.specs.Chars.{chars, peek, widths, isStray}
 use Rattle.utf8.proofs.First.{chars-le}
 use Rattle.utf8.proofs.Places.{place-fits}
 use Rattle.kinds.specs.Kinds.{STRING, COMMENT}
+use Rattle.errors.specs.Numbers.{OPEN-RAW-STRING, OPEN-COMMENT}
 use Rattle.spans.specs.declared.body.Body.{Body}
 use Rattle.spans.specs.Span.{Span, toStop, toStarSlash}
 use Rattle.utf8.specs.Count.{isCr, count}
@@ -116,7 +117,7 @@ module _ (s : List ℕ) (at n : ℕ) (o : Opened s at n) (sp : Span) where
       → ((all : List ℕ) → textOf how read all ≡ text) → valueOf way (chars (drop (at + 1) s)) ≡ value
       → lengthOf bytes (b .strays) differs ≡ length text → lengthOf inside (b .strays) other ≡ length value
       → differs ≡ textDiffersIn text (take (widths read) (drop at s))
-      → other ≡ not (same value (cond (eqb kind STRING) (take (length (take (widths read) (drop at s)) - cond (eqb error 6) 1 2) (drop 1 (take (widths read) (drop at s)))) []))
+      → other ≡ not (same value (cond (eqb kind STRING) (take (length (take (widths read) (drop at s)) - cond (eqb error OPEN-RAW-STRING) 1 2) (drop 1 (take (widths read) (drop at s)))) []))
       → said s at (bodyAs b n kind error mark how way bytes inside differs other) ≡ placed s at (lexemeAs (n + sp .len) kind error 0 mark text value)
   unfolding said placed bodyOf
   span-said b e kind error mark how way text value bytes inside differs other tw vw t v f g h k =
@@ -169,14 +170,14 @@ module _ (s : List ℕ) (at : ℕ) (there : getD s at 0 ≡ 96) (b : Body) (is :
   pub raw-room : length s < 2 ^ 63 → (at + b .crs ≤ b .end) × (b .chars + 1 < 2 ^ 64)
   raw-room h = span-room s at 1 raw-opened rawSpan (stop-spanned 96 (chars (drop (at + 1) s)) .bound) b is h
 
-  raw-lexeme : lexRaw (chars (drop at s)) ≡ lexemeAs (1 + rawSpan .len) STRING (cond (rawSpan .closed) 0 6) 0 true (clean rawRead) rawValue
+  raw-lexeme : lexRaw (chars (drop at s)) ≡ lexemeAs (1 + rawSpan .len) STRING (cond (rawSpan .closed) 0 OPEN-RAW-STRING) 0 true (clean rawRead) rawValue
   unfolding lexRaw
   raw-lexeme =
       let r = chars (drop at s) in
       let n : suc (rawSpan .len) ≡ 1 + rawSpan .len = omega arith in
       ap (λ l. rawOf r (toStop 96 l)) raw-rest
-      ∙ ap (λ l. lexemeAs (suc (rawSpan .len)) STRING (cond (rawSpan .closed) 0 6) 0 true (clean (take (suc (rawSpan .len)) r)) (clean (take (rawInside rawSpan) l))) raw-rest
-      ∙ ap (λ k. lexemeAs k STRING (cond (rawSpan .closed) 0 6) 0 true (clean (take k r)) rawValue) n
+      ∙ ap (λ l. lexemeAs (suc (rawSpan .len)) STRING (cond (rawSpan .closed) 0 OPEN-RAW-STRING) 0 true (clean (take (suc (rawSpan .len)) r)) (clean (take (rawInside rawSpan) l))) raw-rest
+      ∙ ap (λ k. lexemeAs k STRING (cond (rawSpan .closed) 0 OPEN-RAW-STRING) 0 true (clean (take k r)) rawValue) n
 
   -- the bytes of the value are the first k characters behind the backquote, of w bytes, with the CRs and stray bytes of the whole
   raw-value : (k : ℕ) → rawInside rawSpan ≡ k → count isCr (take (rawSpan .len) (chars (drop (at + 1) s))) ≡ count isCr (take k (chars (drop (at + 1) s)))
@@ -194,8 +195,8 @@ module _ (s : List ℕ) (at : ℕ) (there : getD s at 0 ≡ 96) (b : Body) (is :
   raw-first : peek rawRead ≡ 96
   raw-first = first-taken (1 + rawSpan .len) (chars (drop at s)) (omega arith) ∙ ap peek (open-chars s at 96 (omega arith) (omega arith) there)
 
-  raw-said : (error : ℕ) → cond (rawSpan .closed) 0 6 ≡ error → (inside : ℕ) → inside + 2 * b .strays ≡ length rawValue
-      → differsOf b ≡ not (same rawValue (take (widths (take (rawSpan .len) (chars (drop (at + 1) s))) - cond (eqb error 6) 0 1) (drop (at + 1) s)))
+  raw-said : (error : ℕ) → cond (rawSpan .closed) 0 OPEN-RAW-STRING ≡ error → (inside : ℕ) → inside + 2 * b .strays ≡ length rawValue
+      → differsOf b ≡ not (same rawValue (take (widths (take (rawSpan .len) (chars (drop (at + 1) s))) - cond (eqb error OPEN-RAW-STRING) 0 1) (drop (at + 1) s)))
       → said s at (bodyAs b 1 STRING error true WithoutCr Raw (bytesOf b at) inside (differsOf b) (differsOf b)) ≡ placed s at (lexRaw (chars (drop at s)))
   raw-said error e inside n d =
       let w : widths rawRead ≡ suc (widths (take (rawSpan .len) (chars (drop (at + 1) s)))) = omega (arith, raw-opened .bytes (rawSpan .len)) in
@@ -204,7 +205,7 @@ module _ (s : List ℕ) (at : ℕ) (there : getD s at 0 ≡ 96) (b : Body) (is :
       (way-without-cr rawRead x (text-there s at 1 raw-opened rawSpan (omega arith)) (rw raw-first) (rw raw-first) refl) (rw raw-first)
       (λ _. refl) refl (text-exact s at 1 raw-opened rawSpan b is)
       (exact-with-strays (not (eqb (b .crs) 0)) inside (b .strays) (length rawValue) n) (text-differs s at 1 raw-opened rawSpan (omega arith) b is)
-      (d ∙ ap (λ l. not (same rawValue l)) (sym (inside-token (eqb error 6) s at (widths rawRead) _ w (read-fits s at 1 raw-opened rawSpan))))
+      (d ∙ ap (λ l. not (same rawValue l)) (sym (inside-token (eqb error OPEN-RAW-STRING) s at (widths rawRead) _ w (read-fits s at 1 raw-opened rawSpan))))
       ∙ ap (placed s at) (sym (raw-lexeme ∙ ap (λ k. lexemeAs (1 + rawSpan .len) STRING k 0 true (clean rawRead) rawValue) e))
 
   module _ (h : b .closed ≡ true) where
@@ -233,7 +234,7 @@ module _ (s : List ℕ) (at : ℕ) (there : getD s at 0 ≡ 96) (b : Body) (is :
   unfolding bodyOf
   raw-one = rw is (omega (arith, count-fits isCr (rawSpan .len) s (at + 1)))
 
-  pub raw-open : b .closed ≡ false → said s at (bodyAs b 1 STRING 6 true WithoutCr Raw (bytesOf b at) (bytesOf b at - 1) (differsOf b) (differsOf b)) ≡ placed s at (lexRaw (chars (drop at s)))
+  pub raw-open : b .closed ≡ false → said s at (bodyAs b 1 STRING OPEN-RAW-STRING true WithoutCr Raw (bytesOf b at) (bytesOf b at - 1) (differsOf b) (differsOf b)) ≡ placed s at (lexRaw (chars (drop at s)))
   unfolding bodyOf
   raw-open h =
       let r = chars (drop (at + 1) s) in
@@ -241,7 +242,7 @@ module _ (s : List ℕ) (at : ℕ) (there : getD s at 0 ≡ 96) (b : Body) (is :
       let v = raw-value (rawSpan .len) (rw c) refl refl in
       let w : widths (take (rawSpan .len) r) - 0 ≡ widths (take (rawSpan .len) r) = omega arith in
       let end : b .end ≡ at + 1 + widths (take (rawSpan .len) r) = ap (λ (x : Body). x .end) is in
-      raw-said 6 (rw c) (bytesOf b at - 1) (omega (arith, v .0, end, raw-one)) (v .1 ∙ ap (λ m. not (same rawValue (take m (drop (at + 1) s)))) (sym w))
+      raw-said OPEN-RAW-STRING (rw c) (bytesOf b at - 1) (omega (arith, v .0, end, raw-one)) (v .1 ∙ ap (λ m. not (same rawValue (take m (drop (at + 1) s)))) (sym w))
 
 -- ---- comments
 module _ (s : List ℕ) (at : ℕ) (first : getD s at 0 ≡ 47) (mark : Bool) (b : Body) where
@@ -323,11 +324,11 @@ module _ (s : List ℕ) (at : ℕ) (first : getD s at 0 ≡ 47) (mark : Bool) (b
         ap (λ l. cond (eqb (peek (drop 1 l)) 47) (lineComment mark r (toStop 10 (drop 2 l))) (generalComment mark r (toStarSlash false (drop 2 l))))
         (comment-chars s at 42 (omega arith) (omega arith) first second)
 
-    pub general-said : (error : ℕ) → cond (b .closed) 0 7 ≡ error
+    pub general-said : (error : ℕ) → cond (b .closed) 0 OPEN-COMMENT ≡ error
         → said s at (bodyAs b 2 COMMENT error mark WithoutCr NoValue (bytesOf b at) 0 (differsOf b) false) ≡ placed s at (comment mark (chars (drop at s)))
     unfolding bodyOf
     general-said error e =
-        let c : cond (generalSpan .closed) 0 7 ≡ error = sym (ap (λ (x : Body). cond (x .closed) 0 7) is) ∙ e in
+        let c : cond (generalSpan .closed) 0 OPEN-COMMENT ≡ error = sym (ap (λ (x : Body). cond (x .closed) 0 OPEN-COMMENT) is) ∙ e in
         comment-said 42 (omega arith) (omega arith) second generalSpan is error
         ∙ ap (placed s at) (sym (general-lexeme ∙ rw c))
 

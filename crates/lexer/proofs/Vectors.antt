@@ -8,6 +8,7 @@ use Rattle.basics.specs.Spelling.{spelled}
 use Rattle.utf8.specs.Chars.{charsFrom, chars, firstChar, octets, encode}
 use Rattle.kinds.specs.Kinds.{ILLEGAL, EOF, COMMENT, IDENT, INT, FOR, DEFINE}
 use Rattle.kinds.specs.Table.{keywords, operators, kindNamed}
+use Rattle.errors.specs.Numbers.{BAD-OCTAL, MISPLACED-UNDERSCORE, NOT-ONE-CHARACTER}
 use Rattle.digits.specs.Digit.{digitVal}
 use Rattle.words.specs.Word.{isLetter, isWord, wordLen}
 use Rattle.blanks.specs.Blank.{isSpace, isBlank, skip}
@@ -56,7 +57,7 @@ define : first true ":=1" ≡ bare DEFINE 2 false
 unfolding charsFrom firstChar octets encode skip isBlank isSpace isLetter begins longest operators lexOperator lexBy lexToken lex
 define = refl
 
-octal : first false "08" ≡ shown ILLEGAL 1 (spelled "0o") 2 true
+octal : first false "08" ≡ shown ILLEGAL 1 (spelled "0o") BAD-OCTAL true
 unfolding charsFrom firstChar octets encode skip isBlank isSpace isLetter digitVal digitRun strictRun decimal prefixed bareZero leadingZero withoutI number numberText lexNumber lexBy lexToken lex
 octal = refl
 
@@ -64,7 +65,7 @@ hexadecimal : first false "0X1F" ≡ shown INT 4 (spelled "0x1F") 0 true
 unfolding charsFrom firstChar octets encode skip isBlank isSpace isLetter digitVal digitRun strictRun decimal prefixed bareZero leadingZero withoutI number numberText lexNumber lexBy lexToken lex
 hexadecimal = refl
 
-doubled : first false "1__0" ≡ shown ILLEGAL 2 (spelled "1_") 4 true
+doubled : first false "1__0" ≡ shown ILLEGAL 2 (spelled "1_") MISPLACED-UNDERSCORE true
 unfolding charsFrom firstChar octets encode skip isBlank isSpace isLetter digitVal digitRun strictRun decimal withoutI number numberText lexNumber lexBy lexToken lex
 doubled = refl
 
@@ -72,7 +73,7 @@ two-dots : first true "..x" ≡ shown ILLEGAL 2 (spelled "..") 0 true
 unfolding charsFrom firstChar octets encode skip isBlank isSpace isLetter lexDot lexBy lexToken lex
 two-dots = refl
 
-no-character : first false "''" ≡ shown ILLEGAL 2 (spelled "''") 13 true
+no-character : first false "''" ≡ shown ILLEGAL 2 (spelled "''") NOT-ONE-CHARACTER true
 unfolding charsFrom firstChar octets encode skip isBlank isSpace isLetter bodyFrom lexChar lexBy lexToken lex
 no-character = refl
 

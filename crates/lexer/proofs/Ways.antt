@@ -8,7 +8,6 @@ use native.Mathlib.Omega.{arith}
 use lib.Dec.{T, eqb}
 use lib.ListN.{length, getD, take, drop, length-append}
 use borrow.Author.Tests.{ne-eqb, eqb-true, not-true}
-use Rattle.basics.specs.Same.{same}
 use Rattle.basics.proofs.Choice.{either, and-split, above-it, true-of}
 use Rattle.basics.proofs.Every.{every-below}
 use Rattle.basics.proofs.Lists.{same-refl, same-length}

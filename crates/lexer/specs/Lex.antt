@@ -37,6 +37,10 @@ lexDot mark r =
 unfoldable pub lexSlash : Bool → List Char → Lexeme
 lexSlash mark r = cond (eqb (peek (drop 1 r)) (code "/") || eqb (peek (drop 1 r)) (code "*")) (lexComment mark r) (lexOperator mark r)
 
+-- a token that is no word, number or literal, by its first character, c
+abbrev pub lexOther : Bool → ℕ → List Char → Lexeme
+lexOther mark c r = cond (eqb c (code ".")) (lexDot mark r) (cond (eqb c (code "/")) (lexSlash mark r) (lexOperator mark r))
+
 -- by the first character, c
 unfoldable pub lexBy : Bool → ℕ → List Char → Lexeme
 lexBy mark c r =
@@ -45,7 +49,7 @@ lexBy mark c r =
     (cond (eqb c (code "\n")) insertedSemicolon
     (cond (eqb c (code "\"")) (lexString r)
     (cond (eqb c (code "'")) (lexChar r)
-    (cond (eqb c (code "`")) (lexRaw r) (cond (eqb c (code ".")) (lexDot mark r) (cond (eqb c (code "/")) (lexSlash mark r) (lexOperator mark r))))))))
+    (cond (eqb c (code "`")) (lexRaw r) (lexOther mark c r))))))
 
 -- after the blanks; "LF, or the end, with "now" set: an inserted SEMICOLON .. At the end without it: EOF."
 unfoldable pub lexToken : Bool → List Char → Lexeme

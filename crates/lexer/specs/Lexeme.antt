@@ -1,7 +1,7 @@
 -- What one scan reads, and nothing of where it stands.
 use Prim.Native.Nat.{ℕ, _+_}
 use mathlib.Core.Bool.{Bool, true, false}
-use mathlib.Core.List.{List, [], _∷_}
+use mathlib.Core.List.{List, []}
 use mathlib.Core.Logic.{_≢_}
 use Rattle.kinds.specs.Kinds.{SEMICOLON}
 use Rattle.errors.specs.Numbers.{OPEN-RAW-STRING, OPEN-COMMENT}

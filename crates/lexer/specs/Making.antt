@@ -24,10 +24,12 @@ use Rattle.lexer.specs.Lexeme.{Lexeme}
 abbrev pub isNumber : List Char → Bool
 isNumber cs = isDecimal (peek cs) || (eqb (peek cs) (code ".") && isDecimal (peek (drop 1 cs)))
 
+-- a raw string with a backquote
 abbrev pub isRaw : List Char → Bool
 isRaw cs = eqb (peek cs) (code "`")
 
--- the spelling of a number: the first of these that makes its text of the bytes read
+-- the spelling of a number: the first of these that makes its text of the bytes read. Of `1E5` a prefix in lower case would make the same, so the
+-- exponent stands before it
 abbrev pub spellingOf : List ℕ → List ℕ → Spelling
 spellingOf text bytes =
     cond (same text (numberText Same bytes)) Same

@@ -10,13 +10,13 @@ use crate::quoted::lex_char;
 use crate::quoted::lex_string;
 use crate::word::lex_word;
 ghost use mathlib.Core.Path.{_≡_};
-ghost use mathlib.Core.Bool.{cond, not, false, _&&_, _||_};
+ghost use mathlib.Core.Bool.{not, false, _&&_, _||_};
 ghost use Prim.Native.Nat.{_+_, _<_};
 ghost use lib.Dec.{eqb};
 ghost use lib.ListN.{length, drop, getD};
 ghost use Rattle.utf8.specs.Chars.{chars};
 ghost use Rattle.digits.specs.Digit.{isDecimal};
-ghost use Rattle.lexer.specs.Lex.{lexIllegal, lexOperator, lexDot, lexSlash, lexToken};
+ghost use Rattle.lexer.specs.Lex.{lexIllegal, lexOperator, lexOther, lexToken};
 ghost use Rattle.lexer.specs.Placed.{said, placed};
 ghost use Rattle.lexer.specs.Made.{code, StartsOther};
 
@@ -92,9 +92,7 @@ fn is_two_points(src: &[u8], at: usize) -> bool
 fn lex_other(src: &[u8], at: usize, second: u8, mark: bool) -> Lexed
     requires { ⌜ StartsOther (now src) at × (getD (now src) (at + 1) 0 ≡ second)
         × (eqb (getD (now src) at 0) (code ".") && isDecimal second ≡ false) ⌝ }
-    ensures { λ r. ⌜ said (now (src .entry)) at r ≡ placed (now (src .entry)) at
-        (cond (eqb (getD (now (src .entry)) at 0) (code ".")) (lexDot mark (chars (drop at (now (src .entry)))))
-        (cond (eqb (getD (now (src .entry)) at 0) (code "/")) (lexSlash mark (chars (drop at (now (src .entry))))) (lexOperator mark (chars (drop at (now (src .entry))))))) ⌝ }
+    ensures { λ r. ⌜ said (now (src .entry)) at r ≡ placed (now (src .entry)) at (lexOther mark (getD (now (src .entry)) at 0) (chars (drop at (now (src .entry))))) ⌝ }
 {
     if starts_comment(src[at], second) {
         return lex_comment(src, at, second, mark);

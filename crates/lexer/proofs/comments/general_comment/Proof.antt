@@ -3,6 +3,7 @@ use native.Mathlib.Omega.{arith}
 use borrow.Author.Needs.{needs}
 use borrow.Author.Tests.{not-true, not-false}
 use Rattle.basics.proofs.Lists.{reach}
+use Rattle.errors.specs.Numbers.{OPEN-COMMENT}
 use Rattle.lexer.proofs.SpannedTokens.{general-room, general-said}
 use Rattle.lexer.proofs.comments.general_comment.Statement.{statement}
 use Rattle.lexer.proofs.comments.general_comment.Tie as tie
@@ -27,7 +28,7 @@ returns c =
     let a = x .before .before .before in
     let b = x .before .block-body in
     rw (x .spanned .ensures)
-    (general-said (a .args .src .now) (a .args .at) (a .pre .0) (a .args .mark) (b .result) (a .pre .1) (b .ensures) 7 (rw (not-true (b .result .closed) (c .if1 .taken))))
+    (general-said (a .args .src .now) (a .args .at) (a .pre .0) (a .args .mark) (b .result) (a .pre .1) (b .ensures) OPEN-COMMENT (rw (not-true (b .result .closed) (c .if1 .taken))))
 
 returns-2 : tie.Need-returns-2
 returns-2 c =
