@@ -6,7 +6,7 @@ use lib.Dec.{leb}
 use lib.ListN.{length}
 use Rattle.position.specs.declared.File.{File}
 use Rattle.position.specs.Lines.{lineStart}
-use Rattle.position.specs.Place.{inRange, fitting}
+use Rattle.position.specs.Place.{inRange, hasLine, fitting}
 use Rattle.errors.specs.Errors.{roomOf}
 use Rattle.state.specs.declared.state.State.{State}
 
@@ -16,7 +16,7 @@ fileOf s = record { base = s .base; size = s .size; lines = s .lines }
 
 -- "offset above place or size, base + size too large, line count 0"
 abbrev pub fitsAlone : State → Bool
-fitsAlone s = leb (s .offset) (s .place) && leb (s .offset) (s .size) && leb 1 (s .lines) && inRange (fileOf s)
+fitsAlone s = leb (s .offset) (s .place) && leb (s .offset) (s .size) && hasLine (fileOf s) && inRange (fileOf s)
 
 -- "line count .. above the table, first start not 0, last start .. above the offset"
 abbrev pub fitsTable : State → List ℕ → Bool
