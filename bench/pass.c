@@ -21,7 +21,7 @@ size_t pass(const uint8_t *src, size_t len, size_t *sum)
             return 0;
         for (i = 0; i < given; i++) {
             const size_t *token = tokens + i * SCANNER_TOKEN_LEN;
-            total += token[SCANNER_TOKEN_POSITION] + scanner_text(token, src, area).len;
+            total += token[SCANNER_TOKEN_POSITION] + scanner_part(token + SCANNER_TOKEN_TEXT_IN_AREA, src, area).len;
             kind = token[SCANNER_TOKEN_KIND];
         }
         all += given;
@@ -40,7 +40,7 @@ size_t pass_by_one(const uint8_t *src, size_t len, size_t *sum)
                          token, LEN(token)) != SCANNER_OK)
             return 0;
         tokens++;
-        total += token[SCANNER_TOKEN_POSITION] + scanner_text(token, src, area).len;
+        total += token[SCANNER_TOKEN_POSITION] + scanner_part(token + SCANNER_TOKEN_TEXT_IN_AREA, src, area).len;
     } while (token[SCANNER_TOKEN_KIND] != SCANNER_KIND_EOF);
     *sum = total;
     return tokens;

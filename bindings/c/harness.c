@@ -386,6 +386,30 @@ static void call_error(struct world *w, size_t index)
     check_query(w, answer, SCANNER_ERROR_LEN);
 }
 
+/* Text or value of a token, whose part stands at an index: it is answered where it lies in its buffer. */
+static void call_part(struct world *w, size_t at)
+{
+    const size_t *token = numbers_of(&w->token), *part = numbers_of(&w->answer);
+    size_t len;
+    int fits;
+    uint8_t answer;
+    keep_all(w);
+    answer = (at == SCANNER_TOKEN_TEXT_IN_AREA ? scanner_text : scanner_value)(
+        bytes_of(&w->src), len_of(&w->src), bytes_of(&w->area), len_of(&w->area), token, len_of(&w->token),
+        numbers_of(&w->answer), len_of(&w->answer));
+    note(answer, "06");
+    check_refused(w, answer == SCANNER_OK ? SCANNER_PART_LEN : 0);
+    if (len_of(&w->token) < SCANNER_TOKEN_LEN || len_of(&w->answer) < SCANNER_PART_LEN) {
+        check(answer == SCANNER_DOES_NOT_FIT, "6 for a short slice");
+        return;
+    }
+    len = token[at] != 0 ? len_of(&w->area) : len_of(&w->src);
+    fits = token[at + 1] <= token[at + 2] && token[at + 2] <= len;
+    check(answer == (fits ? SCANNER_OK : SCANNER_DOES_NOT_FIT), "6 for a part outside its buffer, and only then");
+    if (fits)
+        check(part[0] == (token[at] != 0) && part[1] == token[at + 1] && part[2] == token[at + 2], "another part");
+}
+
 /* Bytes of a source: pieces of Go; in some sources random bytes and pieces that are not UTF-8, too. */
 static void write_source(struct lent *src)
 {
@@ -446,6 +470,8 @@ static void forge(struct world *w)
     }
     if (below(6) == 0 && len_of(&w->table) > 0)
         numbers_of(&w->table)[below(len_of(&w->table))] = edge(len_of(&w->src));
+    if (below(2) == 0 && len_of(&w->token) > 0)
+        numbers_of(&w->token)[below(len_of(&w->token))] = edge(below(2) == 0 ? len_of(&w->src) : len_of(&w->area));
     if (below(6) == 0 && len_of(&w->list) > 0)
         numbers_of(&w->list)[below(len_of(&w->list))] = edge(len_of(&w->src));
 }
@@ -456,6 +482,8 @@ static void ask(struct world *w)
     call_position(w, edge(near));
     call_line_start(w, edge(below(LIMIT)));
     call_error(w, edge(below(4)));
+    call_part(w, SCANNER_TOKEN_TEXT_IN_AREA);
+    call_part(w, SCANNER_TOKEN_VALUE_IN_AREA);
 }
 
 /* One token, or many. */
@@ -510,6 +538,8 @@ static void all_lengths(size_t state, size_t token)
     call_position(&w, 0);
     call_line_start(&w, 1);
     call_error(&w, 0);
+    call_part(&w, SCANNER_TOKEN_TEXT_IN_AREA);
+    call_part(&w, SCANNER_TOKEN_VALUE_IN_AREA);
     check(call_scan(&w) == (state < SCANNER_STATE_LEN || token < SCANNER_TOKEN_LEN ? SCANNER_DOES_NOT_FIT : SCANNER_OK),
           "a length at a scan");
     check(call_many(&w) == (state < SCANNER_STATE_LEN || token < 1 ? SCANNER_DOES_NOT_FIT : SCANNER_OK),

@@ -6,10 +6,15 @@
  * SCANNER_KIND_EOF. Between calls the scanner keeps nothing: state, line table,
  * error list and text area are the caller's.
  *
- * Each function answers 0, or the number of a refusal; a refused call changes
- * nothing that it was lent, but for the place that refusal 1 carries and the
- * tokens that scanner_scan_many gives before it is refused. After 7, 8 or 9
- * call again with a larger copy of the table, the list or the area.
+ * Each function answers 0, or the number of a refusal. A refused call changes
+ * nothing that it was lent, but for the place that refusal 1 carries. After 7, 8
+ * or 9 call again with a larger copy of the table, the list or the area.
+ *
+ * Before all else, each function looks whether its slices of numbers are long
+ * enough: a state of SCANNER_STATE_LEN numbers, a token of SCANNER_TOKEN_LEN,
+ * room for one token in `tokens`, and in `answer` as many numbers as its comment
+ * says. If one is too short, the call is refused with 6 and nothing is written.
+ * The table, the list and the area may have any length.
  *
  * Lengths count elements. No pointer may be NULL, not even where its length is
  * 0, and no two buffers of a call may overlap.
@@ -30,11 +35,12 @@ _Static_assert(sizeof(size_t) == 8, "the scanner counts in 64 bits");
 #define SCANNER_MAX_SOURCE 1048576
 #define SCANNER_MAX_POSITION 4294967295u
 
-/* How many numbers a state, a token, an error and a position are. */
+/* How many numbers a state, a token, an error, a position and a part are. */
 #define SCANNER_STATE_LEN 7
 #define SCANNER_TOKEN_LEN 10
 #define SCANNER_ERROR_LEN 4
 #define SCANNER_POSITION_LEN 3
+#define SCANNER_PART_LEN 3
 
 /* The numbers of a state. */
 enum scanner_state_index {
@@ -226,7 +232,7 @@ uint8_t scanner_scan(const uint8_t *src, size_t src_len, size_t *state, size_t s
  *                                             tokens, 256 * SCANNER_TOKEN_LEN, &count, 1);
  *         for (i = 0; i < count; i++) {
  *             const size_t *token = tokens + i * SCANNER_TOKEN_LEN;
- *             struct scanner_bytes text = scanner_text(token, src, area);
+ *             struct scanner_bytes text = scanner_part(token + SCANNER_TOKEN_TEXT_IN_AREA, src, area);
  *             kind = token[SCANNER_TOKEN_KIND];
  *             ...
  *         }
@@ -242,17 +248,37 @@ uint8_t scanner_scan_many(const uint8_t *src, size_t src_len, size_t *state, siz
                           uint8_t *area, size_t area_len, size_t *tokens, size_t tokens_len,
                           size_t *answer, size_t answer_len);
 
-/* Offset, line and column of a position. Lines are known as far as the source was read. */
+/*
+ * Offset, line and column of a position, in `answer` (SCANNER_POSITION_LEN
+ * numbers). Lines are known as far as the source was read.
+ */
 uint8_t scanner_position(const size_t *state, size_t state_len, const size_t *table, size_t table_len,
                          size_t position, size_t *answer, size_t answer_len);
 
-/* The position at which a line, counted from 1, starts. */
+/* The position at which a line, counted from 1, starts, in `answer` (1 number). */
 uint8_t scanner_line_start(const size_t *state, size_t state_len, const size_t *table, size_t table_len,
                            size_t line, size_t *answer, size_t answer_len);
 
-/* Offset, line, column and number of an error, by its index from 0; four zeros past the last. */
+/*
+ * Offset, line, column and number of an error, by its index from 0, in `answer`
+ * (SCANNER_ERROR_LEN numbers); four zeros past the last.
+ */
 uint8_t scanner_error(const size_t *state, size_t state_len, const size_t *list, size_t list_len,
                       size_t index, size_t *answer, size_t answer_len);
+
+/*
+ * The text of a token, as a part of the source or of the area, in `answer`
+ * (SCANNER_PART_LEN numbers): 1 if it stands in the area, its start, its end.
+ * Give the source that was scanned, and the area as the token's own scan left
+ * it. Operators, keywords and EOF have an empty text. A part that does not lie in
+ * its buffer, as one of a token that no scan gave may not, is refused with 6.
+ */
+uint8_t scanner_text(const uint8_t *src, size_t src_len, const uint8_t *area, size_t area_len,
+                     const size_t *token, size_t token_len, size_t *answer, size_t answer_len);
+
+/* The value of a STRING, likewise; every other token has an empty one. */
+uint8_t scanner_value(const uint8_t *src, size_t src_len, const uint8_t *area, size_t area_len,
+                      const size_t *token, size_t token_len, size_t *answer, size_t answer_len);
 
 /* Bytes of the source or of the area. They end with no 0. */
 struct scanner_bytes {
@@ -260,25 +286,21 @@ struct scanner_bytes {
     size_t len;
 };
 
-/* The part that three numbers of a token are: in the area or not, start, end. */
+/*
+ * The bytes of a part that scanner_text or scanner_value answered. It checks
+ * nothing: the part must lie in its buffer. The parts of a token that a scan
+ * gave do, in that scan's source and area; so for such a token
+ *
+ *     scanner_part(token + SCANNER_TOKEN_TEXT_IN_AREA, src, area)
+ *
+ * is its text without a call.
+ */
 static inline struct scanner_bytes scanner_part(const size_t *part, const uint8_t *src, const uint8_t *area)
 {
     struct scanner_bytes bytes;
     bytes.start = (part[0] != 0 ? area : src) + part[1];
     bytes.len = part[2] - part[1];
     return bytes;
-}
-
-/* The text of a token, from the source and the area as its scan left them. Operators, keywords and EOF have none. */
-static inline struct scanner_bytes scanner_text(const size_t *token, const uint8_t *src, const uint8_t *area)
-{
-    return scanner_part(token + SCANNER_TOKEN_TEXT_IN_AREA, src, area);
-}
-
-/* The value of a STRING, likewise; other tokens have none. */
-static inline struct scanner_bytes scanner_value(const size_t *token, const uint8_t *src, const uint8_t *area)
-{
-    return scanner_part(token + SCANNER_TOKEN_VALUE_IN_AREA, src, area);
 }
 
 #ifdef __cplusplus

@@ -92,6 +92,27 @@ static uint8_t error_at(struct run *r, size_t index)
                          r->answer, SCANNER_ERROR_LEN);
 }
 
+/* The bytes of a token's text or value, which must lie in their buffer. */
+static struct scanner_bytes bytes_of(struct run *r, const size_t *token, int value)
+{
+    uint8_t refusal = value ? scanner_value(r->src, r->src_len, r->area, r->area_len, token, SCANNER_TOKEN_LEN,
+                                            r->answer, SCANNER_PART_LEN)
+                            : scanner_text(r->src, r->src_len, r->area, r->area_len, token, SCANNER_TOKEN_LEN,
+                                           r->answer, SCANNER_PART_LEN);
+    check(refusal == SCANNER_OK, "a token's part lies in its buffer");
+    return scanner_part(r->answer, r->src, r->area);
+}
+
+static struct scanner_bytes text_of(struct run *r, const size_t *token)
+{
+    return bytes_of(r, token, 0);
+}
+
+static struct scanner_bytes value_of(struct run *r, const size_t *token)
+{
+    return bytes_of(r, token, 1);
+}
+
 static int same(struct scanner_bytes bytes, const char *text)
 {
     return bytes.len == strlen(text) && memcmp(bytes.start, text, bytes.len) == 0;
@@ -126,9 +147,9 @@ static void put_token(struct run *r)
     check(locate(r, r->token[SCANNER_TOKEN_POSITION]) == SCANNER_OK, "a token's position has a line");
     put("%zu %zu %zu %zu", r->answer[SCANNER_OFFSET], r->answer[SCANNER_LINE],
         r->answer[SCANNER_COLUMN], kind);
-    put_bytes(scanner_text(r->token, r->src, r->area));
+    put_bytes(text_of(r, r->token));
     if (kind == SCANNER_KIND_STRING)
-        put_bytes(scanner_value(r->token, r->src, r->area));
+        put_bytes(value_of(r, r->token));
     if (kind == SCANNER_KIND_CHAR)
         put(" %zx", r->token[SCANNER_TOKEN_CODE]);
     put("|");
@@ -296,15 +317,41 @@ static void test_area(void)
         refuse(&r, SCANNER_AREA_FULL, "9, a small area");
     check(scan(&r) == SCANNER_OK, "a larger area");
     check(r.token[SCANNER_TOKEN_TEXT_IN_AREA] == 1, "a changed text stands in the area");
-    check(same(scanner_text(r.token, r.src, r.area), "0o17"), "the text in the area");
+    check(same(text_of(&r, r.token), "0o17"), "the text in the area");
     check(r.area[4] == 0xaa, "later bytes keep their content");
     start(&r, "`a\r\n`");
     check(scan(&r) == SCANNER_OK && r.token[SCANNER_TOKEN_KIND] == SCANNER_KIND_STRING, "a raw string with a CR");
-    check(same(scanner_text(r.token, r.src, r.area), "`a\n`"), "its text");
-    check(same(scanner_value(r.token, r.src, r.area), "a\n"), "its value, behind the text");
+    check(same(text_of(&r, r.token), "`a\n`"), "its text");
+    check(same(value_of(&r, r.token), "a\n"), "its value, behind the text");
     start(&r, "\"ab\"");
-    check(scan(&r) == SCANNER_OK && scanner_value(r.token, r.src, r.area).start == r.src + 1,
+    check(scan(&r) == SCANNER_OK && value_of(&r, r.token).start == r.src + 1,
           "a plain value is shown from the source");
+}
+
+/* Parts that do not lie in their buffers, and slices that are too short. */
+static void test_parts(void)
+{
+    struct run r;
+    size_t token[SCANNER_TOKEN_LEN], answer[SCANNER_PART_LEN] = {7, 7, 7};
+    start(&r, "\"a\\x41\"");
+    check(scan(&r) == SCANNER_OK, "a string with an escape");
+    memcpy(token, r.token, sizeof token);
+    check(same(text_of(&r, token), "\"a\\x41\"") && same(value_of(&r, token), "aA"), "its text and its value");
+    token[SCANNER_TOKEN_TEXT_END] = r.src_len;
+    check(same(text_of(&r, token), "\"a\\x41\""), "a part up to the end of the source");
+    token[SCANNER_TOKEN_TEXT_END] = r.src_len + 1;
+    check(scanner_text(r.src, r.src_len, r.area, r.area_len, token, SCANNER_TOKEN_LEN, answer, SCANNER_PART_LEN)
+              == SCANNER_DOES_NOT_FIT, "6, a part past the source");
+    token[SCANNER_TOKEN_TEXT_START] = r.src_len + 2;
+    check(scanner_text(r.src, r.src_len, r.area, r.area_len, token, SCANNER_TOKEN_LEN, answer, SCANNER_PART_LEN)
+              == SCANNER_DOES_NOT_FIT, "6, a part that ends before its start");
+    check(scanner_value(r.src, r.src_len, r.area, 1, r.token, SCANNER_TOKEN_LEN, answer, SCANNER_PART_LEN)
+              == SCANNER_DOES_NOT_FIT, "6, a part past the area");
+    check(scanner_value(r.src, r.src_len, r.area, 2, r.token, SCANNER_TOKEN_LEN - 1, answer, SCANNER_PART_LEN)
+              == SCANNER_DOES_NOT_FIT, "6, a short token");
+    check(scanner_text(r.src, r.src_len, r.area, 2, r.token, SCANNER_TOKEN_LEN, answer, SCANNER_PART_LEN - 1)
+              == SCANNER_DOES_NOT_FIT, "6, a short answer");
+    check(answer[0] == 7 && answer[1] == 7 && answer[2] == 7, "a refused call writes nothing");
 }
 
 /* The area on the heap, doubled as often as the scan asks for it. */
@@ -328,7 +375,7 @@ static void test_growth(void)
     }
     check(area != NULL && refusal == SCANNER_OK, "the scan after growth");
     check(asked == 9 && len == 512, "doubled nine times");
-    check(scanner_text(r.token, r.src, area).len == 504, "a comment without its CRs");
+    check(scanner_part(r.token + SCANNER_TOKEN_TEXT_IN_AREA, r.src, area).len == 504, "a comment without its CRs");
     free(area);
 }
 
@@ -405,14 +452,14 @@ static void test_stops(void)
     struct run r;
     start(&r, "a \"b\" \"b\\n\" c");
     check(scan_beside(&r, 2560) == SCANNER_OK && r.answer[0] == 3, "a stop behind an escape");
-    check(same(scanner_value(r.tokens + SCANNER_TOKEN_LEN, r.src, r.area), "b"), "a value in the source");
-    check(same(scanner_value(r.tokens + 2 * SCANNER_TOKEN_LEN, r.src, r.area), "b\n"), "a value in the area");
+    check(same(value_of(&r, r.tokens + SCANNER_TOKEN_LEN), "b"), "a value in the source");
+    check(same(value_of(&r, r.tokens + 2 * SCANNER_TOKEN_LEN), "b\n"), "a value in the area");
     check(scan_beside(&r, 2560) == SCANNER_OK && r.answer[0] == 3, "c, a semicolon and EOF");
     check(scan_beside(&r, 2560) == SCANNER_OK && r.answer[0] == 1, "EOF again");
     start(&r, "017 018");
     check(scan_beside(&r, 2560) == SCANNER_OK && r.answer[0] == 1, "a stop behind a changed text");
-    check(same(scanner_text(r.tokens, r.src, r.area), "0o17"), "its text");
-    check(scan(&r) == SCANNER_OK && same(scanner_text(r.token, r.src, r.area), "0o1"), "one scan goes on behind many");
+    check(same(text_of(&r, r.tokens), "0o17"), "its text");
+    check(scan(&r) == SCANNER_OK && same(text_of(&r, r.token), "0o1"), "one scan goes on behind many");
     check(scan_beside(&r, 2560) == SCANNER_OK && r.answer[0] == 3, "many go on behind one scan");
 }
 
@@ -447,7 +494,7 @@ static void test_many_full(void)
     refuse_many(&r, 2, SCANNER_AREA_FULL, "9 behind two tokens");
     r.area_len = 4;
     check(scan_beside(&r, 2560) == SCANNER_OK && r.answer[0] == 1, "on with a larger area");
-    check(same(scanner_text(r.tokens, r.src, r.area), "0o17"), "the text that had no room");
+    check(same(text_of(&r, r.tokens), "0o17"), "the text that had no room");
     check(scan_beside(&r, 2560) == SCANNER_OK && r.answer[0] == 3, "and behind it");
 }
 
@@ -482,6 +529,7 @@ int main(void)
     test_short_slices();
     test_full();
     test_area();
+    test_parts();
     test_growth();
     test_batches();
     test_stops();

@@ -12,8 +12,9 @@ use Rattle.errors.specs.declared.layout.Error.{Error}
 use Rattle.errors.specs.Errors.{errorsOf}
 use Rattle.state.specs.declared.state.State.{State}
 use Rattle.state.specs.Opening.{openOf}
-use Rattle.state.specs.Queries.{Shown, shownOf}
+use Rattle.state.specs.Queries.{Shown}
 use Rattle.scanner.specs.declared.answer.Token.{Token}
+use Rattle.scanner.specs.Text.{textShown, valueShown}
 use Rattle.scanner.specs.Scan.{After, scanOf}
 
 -- what goes from call to call: the state, the line table and the error list
@@ -46,8 +47,8 @@ abbrev pub seenIn : List ℕ → After → Seen
 seenIn src a =
     record {
       token = a .answer .token;
-      text = shownOf src (a .area) (a .answer .token .text);
-      value = shownOf src (a .area) (a .answer .token .value);
+      text = textShown src (a .area) (a .answer .token);
+      value = valueShown src (a .area) (a .answer .token);
     }
 
 -- "Scans are numbered by those that gave a token."

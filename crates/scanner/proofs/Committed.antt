@@ -18,11 +18,10 @@ use Rattle.reading.specs.Reading.{errorAt}
 use Rattle.lexer.specs.declared.lexed.Lexed.{Lexed}
 use Rattle.lexer.specs.Placed.{said}
 use Rattle.state.specs.declared.state.State.{State}
-use Rattle.scanner.specs.declared.answer.Token.{Token}
 use Rattle.scanner.specs.declared.answer.Scanned.{Scanned}
 use Rattle.state.specs.Fits.{fileOf}
 use Rattle.scanner.specs.Scan.{written, toArea, After}
-use Rattle.scanner.specs.Steps.{textLen, valueLen, stateBy, tokenBy, startsFrom, isPlain, Ready, commitOf}
+use Rattle.scanner.specs.Steps.{stateBy, tokenBy, positionBy, startsFrom, isPlain, Ready, Left, leftOf, commitOf}
 
 -- what a plain token has
 pub plain : (x : Lexed) → isPlain x ≡ true → (eqb (x .error) 0 ≡ true) × (x .«text_differs» ≡ false) × (x .«value_differs» ≡ false)
@@ -57,34 +56,33 @@ module _ (src : List ℕ) (s : State) (start : ℕ) (x : Lexed) (read starts : �
         → (fitting (fileOf a) t ≡ true) × (a .offset ≤ a .size) × (s .errors + cond (eqb (x .error) 0) 0 1 ≤ roomOf list)
     error-ready e f = rw (e, f) (after-fits, k .sized, k .listRoom)
 
-    pub position-fits : s .base + s .offset + (start - s .place) < 2 ^ 64
+    pub position-fits : positionBy s start < 2 ^ 64
     position-fits = omega (arith, file .top, k .sized, k .blanks)
 
-    -- a plain token may be committed
-    pub plain-ready : isPlain x ≡ true → length table < 2 ^ 64
-        → (isPlain x ≡ true) × (starts ≡ length (startsFrom src s read)) × (s .offset + read < 2 ^ 64) × (s .lines + starts < 2 ^ 64) × (s .place ≤ start)
-        × (s .base + s .offset + (start - s .place) < 2 ^ 64) × (start + 1 + textLen x + valueLen x < 2 ^ 64)
-    plain-ready e short =
-        (e, k .counted, omega (arith, file .top, k .sized), omega (arith, k .tableRoom, short), k .behind, position-fits, k .bytes)
-
-    pub base-fits : s .base + s .offset < 2 ^ 64
-    base-fits = omega (arith, position-fits)
-
-  pub commit-is : {a : State} {t l b : List ℕ} {token : Token} → a ≡ after → t ≡ recorded
+  pub left-is : {a : State} {t l b : List ℕ} → a ≡ after → t ≡ recorded
       → l ≡ cond (eqb (x .error) 0) list (sets list (s .errors * width) (numbers (errorAt (x .error) (a .offset) (take (a .lines) t))))
-      → b ≡ written (toArea (said src start x)) area → token ≡ tokenBy x start (s .base + s .offset + (start - s .place))
-      → _≡_ {A = After} (record { table = t; list = l; area = b; answer = record { refusal = 0; state = a; token = token } })
-      (commitOf src s start x read starts table list area)
+      → b ≡ written (toArea (said src start x)) area
+      → _≡_ {A = Left} (record { table = t; list = l; area = b }) (leftOf src s start x read starts table list area)
+  unfolding leftOf
+  left-is e f g h = rw (g, h, f, e)
+
+  pub commit-is : {l : Left} {a : Scanned} → l ≡ leftOf src s start x read starts table list area
+      → a ≡ record { refusal = 0; state = after; token = tokenBy x start (positionBy s start) }
+      → _≡_ {A = After} (record { table = l .table; list = l .list; area = l .area; answer = a }) (commitOf src s start x read starts table list area)
   unfolding commitOf
-  commit-is e f g h d = rw (g, h, d, f, e)
+  commit-is e f = rw (e, f)
 
   -- a plain token leaves the area as it is
   nothing : isPlain x ≡ true → written (toArea (said src start x)) area ≡ area
   unfolding said
   nothing p = rw (plain x p .1, plain x p .2)
 
+  plain-left : {t : List ℕ} → isPlain x ≡ true → t ≡ recorded
+      → _≡_ {A = Left} (record { table = t; list = list; area = area }) (leftOf src s start x read starts table list area)
+  unfolding leftOf
+  plain-left p f = rw (f, nothing p, plain x p .0)
+
   pub commit-plain-is : {t : List ℕ} {a : Scanned} → isPlain x ≡ true → t ≡ recorded
-      → a ≡ record { refusal = 0; state = after; token = tokenBy x start (s .base + s .offset + (start - s .place)) }
+      → a ≡ record { refusal = 0; state = after; token = tokenBy x start (positionBy s start) }
       → _≡_ {A = After} (record { table = t; list = list; area = area; answer = a }) (commitOf src s start x read starts table list area)
-  unfolding commitOf
-  commit-plain-is p f g = rw (f, g, nothing p, plain x p .0)
+  commit-plain-is p f g = commit-is (plain-left p f) g

@@ -28,7 +28,7 @@ use Rattle.reading.specs.Reading.{Reading, errorAt, newErrors, after}
 use Rattle.state.specs.declared.state.State.{State}
 use Rattle.state.specs.Fits.{fileOf, fitsAlone, fitsTable, fitsSource, fitsList, fits}
 use Rattle.scanner.specs.Scan.{view, written, startOf, toArea, tokenOf, refusalOf, After, refusedBy, stateOf, withError, gaveBy, unless, scanBy, scanOf}
-use Rattle.scanner.specs.Steps.{refusalBy, stateBy, tokenBy, startsFrom, Ready, commitOf}
+use Rattle.scanner.specs.Steps.{refusalBy, stateBy, tokenBy, startsFrom, Ready, leftOf, commitOf}
 use Rattle.scanner.proofs.Refusals.{passed}
 use Rattle.scanner.proofs.Pass.{raised, placed-raise, left, skipped, token, lex-raised, skipped-widths, read, taken-read, token-skipped, end-read, text-length, value-length, area-length, start-behind, end-behind, lengths-fit}
 
@@ -216,7 +216,7 @@ module _ (src : List ℕ) (s : State) (table list area : List ℕ) (k : Held s s
         list-is = rw (sets-take table (s .lines) new room)
 
         gave-is : gaveBy s p (tokenOf (s .base) start r p) u table list area ≡ commitOf src s start x taken′ (length new) table list area
-        unfolding commitOf said
+        unfolding commitOf leftOf said
         gave-is = λ i. record {
           table = written-behind table (s .lines) new room i;
           list = list-is i;

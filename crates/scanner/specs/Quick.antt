@@ -1,36 +1,20 @@
--- Quick scans. No public contract cites this.
-use Prim.Native.Nat.{ℕ, _-_}
+-- Steps of the code. No public contract cites this file. Scans of tokens that are given at once.
+use Prim.Native.Nat.{ℕ, _+_, _-_, _≤_, _<_, _^_}
 use mathlib.Core.Path.{_≡_}
-use mathlib.Core.Bool.{Bool, true, false, cond}
+use mathlib.Core.Bool.{Bool, true, false, cond, _&&_}
 use mathlib.Core.List.{List, [], _∷_}
 use lib.Dec.{eqb, ltb}
-use lib.ListN.{getD}
+use lib.ListN.{length, getD}
+use Rattle.blanks.specs.declared.Skipped.{Skipped}
 use Rattle.lexer.specs.declared.lexed.Lexed.{Lexed}
 use Rattle.state.specs.declared.state.State.{State}
-use Rattle.scanner.specs.declared.answer.Token.{Token}
+use Rattle.state.specs.State.{advance}
 use Rattle.scanner.specs.declared.quick.Tried.{Tried}
 use Rattle.scanner.specs.Scan.{noToken, scanOf}
+use Rattle.scanner.specs.Steps.{textLen, valueLen, tokenBy, isPlain, startsFrom, positionBy}
 
 abbrev pub notDone : State → Tried
 notDone s = record { done = false; state = s; token = noToken }
-
--- the state after a token that ends at a place and an offset, and the token
-abbrev pub doneWith : State → ℕ → ℕ → Bool → ℕ → Token → Tried
-doneWith s place offset mark lines token =
-    record {
-      done = true;
-      state =
-          record {
-            base = s .base;
-            size = s .size;
-            place = place;
-            offset = offset;
-            mark = mark;
-            lines = lines;
-            errors = s .errors;
-          };
-      token = token;
-    }
 
 -- has a token no line feed but perhaps its last byte?
 unfoldable pub endsInFeed : List ℕ → Lexed → Bool
@@ -39,6 +23,29 @@ endsInFeed src x = cond (eqb (x .lfs) 0) true (cond (ltb 1 (x .lfs)) false (eqb 
 -- the line start after such a token, which ends at an offset
 abbrev pub startAfter : Lexed → ℕ → List ℕ
 startAfter x offset = cond (eqb (x .lfs) 0) [] (offset ∷ [])
+
+-- a plain token that ends before the size at an offset, and has no line feed but perhaps its last byte
+abbrev pub isQuick : List ℕ → State → Lexed → ℕ → Bool
+isQuick src s x offset = isPlain x && ltb offset (s .size) && endsInFeed src x
+
+-- what such a token behind blanks is given by: the starts of the blanks, room in the table, and numbers that fit
+pub record QuickReady (src : List ℕ) (s : State) (b : Skipped) (x : Lexed) (table : List ℕ) : Type 0 where
+  pub behind : s .place ≤ b .end
+  pub starts : b .lfs ≡ length (startsFrom src s (b .end - s .place))
+  pub tableRoom : s .lines + (b .lfs + x .lfs) ≤ length table
+  pub position : positionBy s (b .end) < 2 ^ 64
+  pub text : x .«text_differs» ≡ false
+  pub value : x .«value_differs» ≡ false
+  pub bytes : b .end + 1 + textLen x + valueLen x < 2 ^ 64
+
+-- the state after it, and the token
+abbrev pub quickToken : State → Skipped → Lexed → ℕ → Tried
+quickToken s b x offset =
+    record {
+      done = true;
+      state = advance s (x .end) offset (x .mark) (s .lines + (b .lfs + x .lfs)) (s .errors);
+      token = tokenBy x (b .end) (positionBy s (b .end));
+    }
 
 -- what is done is what the scan does, with list and area as they are; what is not done leaves the table as it was
 abbrev pub Tries : List ℕ → State → List ℕ → List ℕ → Tried → List ℕ → Type 0

@@ -18,6 +18,7 @@ use Rattle.state.specs.declared.state.State.{State}
 use Rattle.state.specs.declared.part.Part.{Part}
 use Rattle.scanner.specs.declared.answer.Token.{Token}
 use Rattle.scanner.specs.declared.answer.Scanned.{Scanned}
+use Rattle.state.specs.State.{advance}
 use Rattle.state.specs.Fits.{fits}
 
 -- how far a state and its buffers say that a source has been read
@@ -71,13 +72,27 @@ tokenOf base start s p =
       value = valuePart start p;
     }
 
--- which refusal a scan gives, 0 for none: "a scan 6, 3, 7, 8, 9"
+-- what a scan comes to, or what there is room for: an offset, line starts, errors, and bytes of the text area
+pub record Extent : Type 0 where
+  pub offset : ℕ
+  pub lines : ℕ
+  pub errors : ℕ
+  pub bytes : ℕ
+
+-- which refusal a scan gives that comes to so much, 0 for none: "a scan 6, 3, 7, 8, 9"
+abbrev pub refusalFor : Bool → Extent → Extent → ℕ
+refusalFor fit reached room =
+    cond (not fit) DOES-NOT-FIT
+    (cond (ltb (room .offset) (reached .offset)) BAD-SIZE
+    (cond (ltb (room .lines) (reached .lines)) TABLE-FULL
+    (cond (ltb (room .errors) (reached .errors)) LIST-FULL (cond (ltb (room .bytes) (reached .bytes)) AREA-FULL 0))))
+
+-- how far a source has then been read, and so many bytes to be written, in a text of this size and buffers of these lengths
 abbrev pub refusalOf : Bool → ℕ → Reading → ℕ → ℕ → ℕ → ℕ → ℕ
 refusalOf fit size u table list toWrite area =
-    cond (not fit) DOES-NOT-FIT
-    (cond (ltb size (u .offset)) BAD-SIZE
-    (cond (ltb table (length (u .lines))) TABLE-FULL
-    (cond (ltb list (length (u .errors))) LIST-FULL (cond (ltb area toWrite) AREA-FULL 0))))
+    refusalFor fit
+    (record { offset = u .offset; lines = length (u .lines); errors = length (u .errors); bytes = toWrite })
+    (record { offset = size; lines = table; errors = list; bytes = area })
 
 -- what a scan leaves in the buffers, and its answer
 pub record After : Type 0 where
@@ -100,16 +115,7 @@ refusedBy n s table list area =
 
 -- the state that says how far a source has been read
 abbrev pub stateOf : State → Reading → State
-stateOf s u =
-    record {
-      base = s .base;
-      size = s .size;
-      place = u .place;
-      offset = u .offset;
-      mark = u .mark;
-      lines = length (u .lines);
-      errors = length (u .errors);
-    }
+stateOf s u = advance s (u .place) (u .offset) (u .mark) (length (u .lines)) (length (u .errors))
 
 -- the list with the error of a lexeme, if it has one, behind the first n
 abbrev pub withError : ℕ → ℕ → List ℕ → Reading → List ℕ

@@ -1,12 +1,11 @@
--- The steps of the code of a scan, by the lexer's answer.
+-- Steps of the code. No public contract cites this file. A scan by the lexer's answer.
 use Prim.Native.Nat.{ℕ, _+_, _*_, _-_, _≤_, _<_, _^_}
 use mathlib.Core.Path.{_≡_}
 use mathlib.Core.Bool.{Bool, true, cond, not, _&&_}
 use mathlib.Core.List.{List}
-use lib.Dec.{eqb, ltb}
+use lib.Dec.{eqb}
 use lib.ListN.{length, take, drop}
 use lib.Seq.{sets}
-use Rattle.refusal.specs.Refusals.{BAD-SIZE, TABLE-FULL, LIST-FULL, AREA-FULL}
 use Rattle.utf8.specs.Chars.{chars}
 use Rattle.kinds.specs.Kinds.{STRING}
 use Rattle.lines.specs.Starts.{startsRead}
@@ -21,8 +20,9 @@ use Rattle.lexer.specs.Lex.{lexToken}
 use Rattle.lexer.specs.Placed.{lengthOf, placed, said}
 use Rattle.state.specs.declared.state.State.{State}
 use Rattle.scanner.specs.declared.answer.Token.{Token}
-use Rattle.state.specs.Fits.{fileOf}
-use Rattle.scanner.specs.Scan.{partFrom, written, toArea, After}
+use Rattle.state.specs.State.{advance}
+use Rattle.state.specs.Fits.{fileOf, fits}
+use Rattle.scanner.specs.Scan.{partFrom, written, toArea, refusalFor, After}
 
 -- how many bytes text and value have
 abbrev pub textLen : Lexed → ℕ
@@ -38,22 +38,18 @@ toWrite x = cond (x .«text_differs») (textLen x) 0 + cond (x .«value_differs�
 -- the first refusal of 3, 7, 8, 9, or 0: for the offset reached, the line starts and errors then, and the lengths of the buffers
 abbrev pub refusalBy : Lexed → ℕ → ℕ → State → ℕ → ℕ → ℕ → ℕ
 refusalBy x offset starts s table list area =
-    cond (ltb (s .size) offset) BAD-SIZE
-    (cond (ltb table (s .lines + starts)) TABLE-FULL
-    (cond (ltb list (s .errors + cond (eqb (x .error) 0) 0 1)) LIST-FULL (cond (ltb area (toWrite x)) AREA-FULL 0)))
+    refusalFor true
+    (record {
+      offset = offset;
+      lines = s .lines + starts;
+      errors = s .errors + cond (eqb (x .error) 0) 0 1;
+      bytes = toWrite x;
+    })
+    (record { offset = s .size; lines = table; errors = list; bytes = area })
 
 -- the state after a token that ends at an offset and records so many line starts
 abbrev pub stateBy : Lexed → ℕ → ℕ → State → State
-stateBy x offset starts s =
-    record {
-      base = s .base;
-      size = s .size;
-      place = x .end;
-      offset = offset;
-      mark = x .mark;
-      lines = s .lines + starts;
-      errors = s .errors + cond (eqb (x .error) 0) 0 1;
-    }
+stateBy x offset starts s = advance s (x .end) offset (x .mark) (s .lines + starts) (s .errors + cond (eqb (x .error) 0) 0 1)
 
 -- the token that was read at a place, with its position
 abbrev pub tokenBy : Lexed → ℕ → ℕ → Token
@@ -83,6 +79,12 @@ pub record Reads (src : List ℕ) (s : State) (b : Skipped) (x : Lexed) : Type 0
   pub skipped : b ≡ skippedAt (s .place) (skip (s .mark) (chars (drop (s .place) src)))
   pub token : said src (b .end) x ≡ placed src (b .end) (lexToken (s .mark) (chars (drop (b .end) src)))
 
+-- what is known when a token was read: the state fits, and so many characters were read with the blanks
+pub record Known (src : List ℕ) (s : State) (table list : List ℕ) (b : Skipped) (x : Lexed) (read : ℕ) : Type 0 where
+  pub holds : fits s src table list ≡ true
+  pub reads : Reads src s b x
+  pub chars : read ≡ b .end - s .place + x .chars
+
 -- how a token that was read at a place, and all its characters and line starts, may be committed
 pub record Ready (src : List ℕ) (s : State) (start : ℕ) (x : Lexed) (read starts : ℕ) (table list area : List ℕ) : Type 0 where
   pub counted : starts ≡ length (startsFrom src s read)
@@ -100,9 +102,15 @@ pub record Ready (src : List ℕ) (s : State) (start : ℕ) (x : Lexed) (read st
   pub textLength : length (said src start x .lexeme .text) ≡ textLen x
   pub bytes : start + 1 + textLen x + valueLen x < 2 ^ 64
 
--- what a token that was not refused leaves in the buffers, and its answer
-unfoldable pub commitOf : List ℕ → State → ℕ → Lexed → ℕ → ℕ → List ℕ → List ℕ → List ℕ → After
-commitOf src s start x read starts table list area =
+-- what buffers hold
+pub record Left : Type 0 where
+  pub table : List ℕ
+  pub list : List ℕ
+  pub area : List ℕ
+
+-- what a token that was not refused leaves in the buffers
+unfoldable pub leftOf : List ℕ → State → ℕ → Lexed → ℕ → ℕ → List ℕ → List ℕ → List ℕ → Left
+leftOf src s start x read starts table list area =
     let table′ = sets table (s .lines) (startsFrom src s read) in
     record {
       table = table′;
@@ -110,10 +118,19 @@ commitOf src s start x read starts table list area =
           cond (eqb (x .error) 0) list
           (sets list (s .errors * width) (numbers (errorAt (x .error) (s .offset + read) (take (s .lines + starts) table′))));
       area = written (toArea (said src start x)) area;
-      answer =
-          record {
-            refusal = 0;
-            state = stateBy x (s .offset + read) starts s;
-            token = tokenBy x start (s .base + s .offset + (start - s .place));
-          };
+    }
+
+-- the position of a token that starts at a place, with blanks of one byte each between the state's place and it
+abbrev pub positionBy : State → ℕ → ℕ
+positionBy s start = s .base + s .offset + (start - s .place)
+
+-- the same, and its answer
+unfoldable pub commitOf : List ℕ → State → ℕ → Lexed → ℕ → ℕ → List ℕ → List ℕ → List ℕ → After
+commitOf src s start x read starts table list area =
+    let l = leftOf src s start x read starts table list area in
+    record {
+      table = l .table;
+      list = l .list;
+      area = l .area;
+      answer = record { refusal = 0; state = stateBy x (s .offset + read) starts s; token = tokenBy x start (positionBy s start) };
     }

@@ -4,12 +4,12 @@ use state::Part;
 use state::State;
 ghost use mathlib.Core.Path.{_≡_};
 ghost use mathlib.Core.Bool.{false, cond};
-ghost use Prim.Native.Nat.{_+_, _<_, _^_};
+ghost use Prim.Native.Nat.{_+_, _≤_, _<_, _^_};
 ghost use lib.Dec.{eqb};
 ghost use Rattle.kinds.specs.Kinds.{STRING};
 ghost use Rattle.lexer.specs.Placed.{lengthOf};
 ghost use Rattle.scanner.specs.Scan.{partFrom, noToken};
-ghost use Rattle.scanner.specs.Steps.{textLen, valueLen, tokenBy, isPlain};
+ghost use Rattle.scanner.specs.Steps.{textLen, valueLen, tokenBy, isPlain, positionBy};
 
 pub struct Token {
     pub kind: u8,
@@ -65,6 +65,17 @@ pub(crate) fn refused(number: u8, state: State) -> Scanned
     }
 }
 
+// A token, and the state after it.
+pub(crate) fn gave(state: State, token: Token) -> Scanned
+    ensures { λ r. ⌜ r ≡ record { refusal = 0; state = state; token = token } ⌝ }
+{
+    Scanned {
+        refusal: 0,
+        state,
+        token,
+    }
+}
+
 // A part from a place on, by the lexer's count of its bytes.
 fn part_from(area: bool, start: usize, bytes: usize, strays: usize) -> Part
     requires { ⌜ start + lengthOf bytes strays area < 2 ^ 64 ⌝ }
@@ -112,6 +123,14 @@ pub(crate) fn is_plain(x: Lexed) -> bool
         return false;
     }
     !x.value_differs
+}
+
+// The position of a token that starts at a place, with blanks of one byte each between the state's place and it.
+pub(crate) fn position_at(state: State, start: usize) -> usize
+    requires { ⌜ (state .place ≤ start) × (positionBy state start < 2 ^ 64) ⌝ }
+    ensures { λ r. ⌜ r ≡ positionBy state start ⌝ }
+{
+    state.base + state.offset + (start - state.place)
 }
 
 // The token that was read at a place, with its position.

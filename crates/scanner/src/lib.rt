@@ -1,11 +1,14 @@
 // The scanner: opening a text, one scan, and questions about it.
 mod answer;
+mod parts;
 mod quick;
 mod scanning;
 mod write;
 
 pub use answer::Scanned;
 pub use answer::Token;
+pub use parts::text;
+pub use parts::value;
 pub use scanning::scan;
 pub use state::Opened;
 pub use state::Part;

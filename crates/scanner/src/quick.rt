@@ -3,18 +3,17 @@ use crate::answer::Token;
 use crate::answer::is_plain;
 use crate::answer::no_token;
 use crate::answer::plain_token;
+use crate::answer::position_at;
 use blanks::Skipped;
 use lexer::Lexed;
 use state::State;
 ghost use mathlib.Core.Path.{_≡_};
-ghost use mathlib.Core.Bool.{true};
 ghost use Prim.Native.Nat.{_+_, _-_, _≤_};
 ghost use mathlib.Core.List.{_++_};
 ghost use lib.ListN.{length};
 ghost use lib.Seq.{sets};
-ghost use Rattle.state.specs.Fits.{fits};
-ghost use Rattle.scanner.specs.Steps.{startsFrom, Reads};
-ghost use Rattle.scanner.specs.Quick.{notDone, doneWith, endsInFeed, startAfter, Tries};
+ghost use Rattle.scanner.specs.Steps.{startsFrom, Known};
+ghost use Rattle.scanner.specs.Quick.{notDone, endsInFeed, startAfter, isQuick, QuickReady, quickToken, Tries};
 
 // Whether a scan is done; if so, the state after it and the token.
 pub(crate) struct Tried {
@@ -30,25 +29,6 @@ fn not_done(state: State) -> Tried
     Tried {
         done: false,
         state,
-        token,
-    }
-}
-
-// The state after a token that ends at a place and an offset, and the token.
-fn done(state: State, place: usize, offset: usize, mark: bool, lines: usize, token: Token) -> Tried
-    ensures { λ r. ⌜ r ≡ doneWith state place offset mark lines token ⌝ }
-{
-    Tried {
-        done: true,
-        state: State {
-            base: state.base,
-            size: state.size,
-            place,
-            offset,
-            mark,
-            lines,
-            errors: state.errors,
-        },
         token,
     }
 }
@@ -97,38 +77,60 @@ fn record_ends(
     }
 }
 
-// Tries the token that the lexer read behind the blanks: one that is plain and has no line feed but perhaps its last byte.
+// Is it a token that is given at once? It is plain, ends before the size, and has no line feed but perhaps its last byte.
+fn is_quick(src: &[u8], state: State, x: Lexed, offset: usize) -> bool
+    requires { ⌜ (x .lfs ≤ x .end) × (x .end ≤ length (now src)) ⌝ }
+    ensures { λ r. ⌜ r ≡ isQuick (now (src .entry)) state x offset ⌝ }
+{
+    if !is_plain(x) | (state.size <= offset) {
+        return false;
+    }
+    ends_in_feed(src, x)
+}
+
+// Gives such a token, which ends at an offset.
+fn give_quick(
+    src: &[u8],
+    state: State,
+    blanks: Skipped,
+    x: Lexed,
+    offset: usize,
+    table: &mut [usize],
+) -> Tried
+    requires { ⌜ QuickReady (now src) state blanks x (now table) ⌝ }
+    ensures { λ r. ⌜ (now (table .exit) ≡ sets (now (table .entry)) (state .lines)
+        (startsFrom (now (src .entry)) state (blanks .end - state .place) ++ startAfter x offset)) × (r ≡ quickToken state blanks x offset) ⌝ }
+{
+    let token = plain_token(x, blanks.end, position_at(state, blanks.end));
+    let lines = state.lines + (blanks.lfs + x.lfs);
+    let next = state.advanced(x.end, offset, x.mark, lines, state.errors);
+    record_ends(src, state, blanks, x, offset, table);
+    Tried {
+        done: true,
+        state: next,
+        token,
+    }
+}
+
+// Tries the token that the lexer read behind the blanks, with which so many characters are read.
 pub(crate) fn try_plain(
     src: &[u8],
     state: State,
     blanks: Skipped,
     x: Lexed,
+    read: usize,
     table: &mut [usize],
     list: &[usize],
 ) -> Tried
-    requires { ⌜ (fits state (now src) (now table) (now list) ≡ true) × Reads (now src) state blanks x ⌝ }
+    requires { ⌜ Known (now src) state (now table) (now list) blanks x read ⌝ }
     ensures { λ r. ⌜ Tries (now (src .entry)) state (now (table .entry)) (now (list .entry)) r (now (table .exit)) ⌝ }
 {
-    let start = blanks.end;
-    let offset = state.offset + (start - state.place + x.chars);
-    if !is_plain(x) | (state.size <= offset) {
+    let offset = state.offset + read;
+    if !is_quick(src, state, x, offset) {
         return not_done(state);
     }
-    if !ends_in_feed(src, x) {
+    if table.len() - state.lines < blanks.lfs + x.lfs {
         return not_done(state);
     }
-    let starts = blanks.lfs + x.lfs;
-    if table.len() - state.lines < starts {
-        return not_done(state);
-    }
-    record_ends(src, state, blanks, x, offset, table);
-    let position = state.base + state.offset + (start - state.place);
-    done(
-        state,
-        x.end,
-        offset,
-        x.mark,
-        state.lines + starts,
-        plain_token(x, start, position),
-    )
+    give_quick(src, state, blanks, x, offset, table)
 }

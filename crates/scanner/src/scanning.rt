@@ -1,7 +1,7 @@
 // One scan: a pass that only reads, the checks, and then what is written.
 use crate::answer::Scanned;
-use crate::answer::is_plain;
-use crate::answer::plain_token;
+use crate::answer::gave;
+use crate::answer::position_at;
 use crate::answer::refused;
 use crate::answer::token_of;
 use crate::quick::try_plain;
@@ -25,7 +25,7 @@ ghost use Rattle.errors.specs.Errors.{roomOf};
 ghost use Rattle.reading.specs.Reading.{errorAt};
 ghost use Rattle.state.specs.Fits.{fileOf, fits};
 ghost use Rattle.scanner.specs.Scan.{scanOf};
-ghost use Rattle.scanner.specs.Steps.{textLen, valueLen, toWrite, refusalBy, stateBy, tokenBy, startsFrom, isPlain, Reads, Ready, commitOf};
+ghost use Rattle.scanner.specs.Steps.{toWrite, refusalBy, stateBy, startsFrom, Reads, Known, Ready, leftOf, commitOf};
 
 // How many line starts the next characters record, so many of them with so many line feeds; at the size a line feed starts no line.
 fn starts_read(src: &[u8], state: State, read: usize, lfs: usize) -> usize
@@ -101,19 +101,12 @@ fn state_after(x: Lexed, offset: usize, starts: usize, state: State) -> State
     requires { ⌜ (state .lines + starts < 2 ^ 64) × (state .errors + 1 < 2 ^ 64) ⌝ }
     ensures { λ r. ⌜ r ≡ stateBy x offset starts state ⌝ }
 {
-    State {
-        base: state.base,
-        size: state.size,
-        place: x.end,
-        offset,
-        mark: x.mark,
-        lines: state.lines + starts,
-        errors: if x.error == 0 {
-            state.errors
-        } else {
-            state.errors + 1
-        },
-    }
+    let errors = if x.error == 0 {
+        state.errors
+    } else {
+        state.errors + 1
+    };
+    state.advanced(x.end, offset, x.mark, state.lines + starts, errors)
 }
 
 // Records the line starts of the next characters; where there are none, they are not read again.
@@ -147,44 +140,29 @@ fn record_error(after: State, table: &[usize], list: &mut [usize], count: usize,
     write_error(after, table, list, count, number);
 }
 
-// What commit leaves and answers for a plain token: nothing goes to the list or the area.
-fn commit_plain(
+// Writes what a token that passed the checks leaves in the buffers, by the state after it.
+fn write_token(
     src: &[u8],
     state: State,
+    after: State,
     start: usize,
     x: Lexed,
     read: usize,
     starts: usize,
     table: &mut [usize],
-) -> Scanned
-    requires { ⌜ (isPlain x ≡ true) × (starts ≡ length (startsFrom (now src) state read)) × (state .offset + read < 2 ^ 64)
-        × (state .lines + starts < 2 ^ 64) × (state .place ≤ start) × (state .base + state .offset + (start - state .place) < 2 ^ 64)
-        × (start + 1 + textLen x + valueLen x < 2 ^ 64) ⌝ }
-    ensures { λ r. ⌜ (now (table .exit) ≡ sets (now (table .entry)) (state .lines) (startsFrom (now (src .entry)) state read))
-        × (r ≡ record {
-          refusal = 0;
-          state = stateBy x (state .offset + read) starts state;
-          token = tokenBy x start (state .base + state .offset + (start - state .place));
-        }) ⌝ }
+    list: &mut [usize],
+    area: &mut [u8],
+)
+    requires { ⌜ Ready (now src) state start x read starts (now table) (now list) (now area) × (after ≡ stateBy x (state .offset + read) starts state) ⌝ }
+    ensures { λ _. ⌜ record { table = now (table .exit); list = now (list .exit); area = now (area .exit) }
+        ≡ leftOf (now (src .entry)) state start x read starts (now (table .entry)) (now (list .entry)) (now (area .entry)) ⌝ }
 {
     record_starts(src, state, read, starts, table);
-    let position = state.base + state.offset + (start - state.place);
-    Scanned {
-        refusal: 0,
-        state: State {
-            base: state.base,
-            size: state.size,
-            place: x.end,
-            offset: state.offset + read,
-            mark: x.mark,
-            lines: state.lines + starts,
-            errors: state.errors,
-        },
-        token: plain_token(x, start, position),
-    }
+    record_error(after, table, list, state.errors, x.error);
+    write_area(src, start, x, area);
 }
 
-// Writes what a token that passed the checks leaves in the buffers, and answers it.
+// Commits a token that passed the checks: what it leaves in the buffers, and the answer.
 fn commit(
     src: &[u8],
     state: State,
@@ -200,51 +178,43 @@ fn commit(
     ensures { λ r. ⌜ record { table = now (table .exit); list = now (list .exit); area = now (area .exit); answer = r }
         ≡ commitOf (now (src .entry)) state start x read starts (now (table .entry)) (now (list .entry)) (now (area .entry)) ⌝ }
 {
-    if is_plain(x) {
-        return commit_plain(src, state, start, x, read, starts, table);
-    }
     let after = state_after(x, state.offset + read, starts, state);
-    record_starts(src, state, read, starts, table);
-    record_error(after, table, list, state.errors, x.error);
-    write_area(src, start, x, area);
-    let position = state.base + state.offset + (start - state.place);
-    Scanned {
-        refusal: 0,
-        state: after,
-        token: token_of(x, start, position),
-    }
+    let token = token_of(x, start, position_at(state, start));
+    write_token(src, state, after, start, x, read, starts, table, list, area);
+    gave(after, token)
 }
 
-// What a scan comes to by the blanks and the token that it read: the checks, and then what is written.
+// What a scan comes to by the blanks and the token that it read, so many characters in all: the checks, and then what is written.
 fn finish(
     src: &[u8],
     state: State,
     blanks: Skipped,
     x: Lexed,
+    read: usize,
     table: &mut [usize],
     list: &mut [usize],
     area: &mut [u8],
 ) -> Scanned
-    requires { ⌜ (fits state (now src) (now table) (now list) ≡ true) × Reads (now src) state blanks x ⌝ }
+    requires { ⌜ Known (now src) state (now table) (now list) blanks x read ⌝ }
     ensures { λ r. ⌜ record { table = now (table .exit); list = now (list .exit); area = now (area .exit); answer = r }
         ≡ scanOf (now (src .entry)) state (now (table .entry)) (now (list .entry)) (now (area .entry)) ⌝ }
 {
-    let start = blanks.end;
-    let read = start - state.place + x.chars;
+    let offset = state.offset + read;
+    let room = errors::room(list);
     let starts = starts_read(src, state, read, blanks.lfs + x.lfs);
-    let number = refusal_of(
-        x,
-        state.offset + read,
-        starts,
-        state,
-        table.len(),
-        errors::room(list),
-        area.len(),
-    );
+    let number = refusal_of(x, offset, starts, state, table.len(), room, area.len());
     if number != 0 {
         return refused(number, state);
     }
-    commit(src, state, start, x, read, starts, table, list, area)
+    commit(src, state, blanks.end, x, read, starts, table, list, area)
+}
+
+// How many characters blanks and the token behind them have.
+fn chars_read(src: &[u8], state: State, blanks: Skipped, x: Lexed) -> usize
+    requires { ⌜ (state .place ≤ length (now src)) × Reads (now src) state blanks x ⌝ }
+    ensures { λ r. ⌜ r ≡ blanks .end - state .place + x .chars ⌝ }
+{
+    blanks.end - state.place + x.chars
 }
 
 // Scans one token where the state fits: a pass that only reads, the checks, and then what is written.
@@ -261,17 +231,12 @@ fn scan_next(
 {
     let blanks = blanks::skip_blanks(src, state.place, state.mark);
     let x = lexer::lex_token(src, blanks.end, state.mark);
-    let tried = try_plain(src, state, blanks, x, table, list);
-    if tried.done {
-        let next = tried.state;
-        let token = tried.token;
-        return Scanned {
-            refusal: 0,
-            state: next,
-            token,
-        };
+    let read = chars_read(src, state, blanks, x);
+    let tried = try_plain(src, state, blanks, x, read, table, list);
+    if !tried.done {
+        return finish(src, state, blanks, x, read, table, list, area);
     }
-    finish(src, state, blanks, x, table, list, area)
+    gave(tried.state, tried.token)
 }
 
 // Scans one token.

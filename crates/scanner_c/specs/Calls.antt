@@ -7,6 +7,7 @@ use lib.Dec.{ltb}
 use lib.ListN.{length}
 use lib.Seq.{sets}
 use Rattle.refusal.specs.Outcome.{Outcome, refused, gave}
+use Rattle.refusal.specs.Refusals.{DOES-NOT-FIT}
 use Rattle.position.specs.declared.Position.{Position}
 use Rattle.errors.specs.declared.layout.Error.{Error}
 use Rattle.errors.specs.Layout.{width, numbers}
@@ -39,7 +40,7 @@ unfoldable pub openNumbers : List ℕ → ℕ → ℕ → List ℕ → List ℕ 
 openNumbers src base size table state answer =
     let o = openOf src base size table in
     cond (ltb (length state) stateWidth || ltb (length answer) 1)
-    (record { refusal = 6; table = table; state = state; answer = answer })
+    (record { refusal = DOES-NOT-FIT; table = table; state = state; answer = answer })
     (openedBy (o .outcome) (o .place) (o .table) state answer)
 
 -- what a scan leaves in the lent slices, and its refusal or 0
@@ -69,7 +70,7 @@ unfoldable pub scanNumbers : List ℕ → List ℕ → List ℕ → List ℕ →
 scanNumbers src state table list area token =
     let a = scanOf src (stateIn state) table list area in
     cond (ltb (length state) stateWidth || ltb (length token) tokenWidth)
-    (record { refusal = 6; state = state; table = table; list = list; area = area; token = token })
+    (record { refusal = DOES-NOT-FIT; state = state; table = table; list = list; area = area; token = token })
     (scannedBy (a .answer .refusal) a state token)
 
 -- what a query leaves in its answer, and its refusal or 0
@@ -85,7 +86,7 @@ answeredBy numbersOf (refused number) answer = record { refusal = number; answer
 abbrev pub asked : {A : Type 0} → ℕ → (A → List ℕ) → Outcome A → List ℕ → List ℕ → Answered
 asked n numbersOf outcome state answer =
     cond (ltb (length state) stateWidth || ltb (length answer) n)
-    (record { refusal = 6; answer = answer })
+    (record { refusal = DOES-NOT-FIT; answer = answer })
     (answeredBy numbersOf outcome answer)
 
 unfoldable pub positionNumbers : List ℕ → List ℕ → ℕ → List ℕ → Answered

@@ -1,21 +1,30 @@
 -- `scanning::state_after` meets its contract: one error more, or none.
+use Prim.Native.Nat.{_+_}
+use mathlib.Core.Path.{_≡_}
+use mathlib.Core.Bool.{cond}
+use mathlib.Core.Logic.{⊎-elim}
 use native.Mathlib.Nat.{add-zero}
-use borrow.Author.Needs.{needs}
+use lib.Dec.{eqb}
 use borrow.Author.Tests.{eq-eqb, ne-eqb}
+use borrow.Author.Needs.{needs}
 use Rattle.scanner.proofs.scanning.state_after.Statement.{statement}
 use Rattle.scanner.proofs.scanning.state_after.Tie as tie
 
-add-t12 : tie.Need-add-t12
-add-t12 c = search needs
+add-errors : tie.Need-add-errors
+add-errors c = search needs
 
-add-t16 : tie.Need-add-t16
-add-t16 c = search needs
+-- the count of errors
+counted : (c : tie.Joined1) → let a = c .before .before .args in c .if1 .errors ≡ a .state .errors + cond (eqb (a .x .error) 0) 0 1
+counted c = ⊎-elim (λ w. rw (w .1, eq-eqb _ _ (w .0 .taken), add-zero)) (λ w. rw (w .2, ne-eqb _ _ (w .0 .left))) (c .if1 .came)
+
+add-advanced : tie.Need-add-advanced
+add-advanced c = search needs
+
+advanced-requires : tie.Need-advanced-requires
+advanced-requires c κs = search needs
 
 returns : tie.Need-returns
-returns c = rw (eq-eqb _ _ (c .if1 .taken), add-zero)
-
-returns-2 : tie.Need-returns-2
-returns-2 c = rw (ne-eqb _ _ (c .if1 .left))
+returns c = rw (c .advanced .ensures, counted (c .before .before))
 
 pub state-after-spec : {M : Type 1} → statement M
-state-after-spec = tie.close (tie.spec add-t12 add-t16 returns returns-2)
+state-after-spec = tie.close (tie.spec add-errors add-advanced advanced-requires returns)
