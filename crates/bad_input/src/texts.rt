@@ -11,7 +11,7 @@ fn show_char(c: Char) {
     show::number(c.width);
 }
 
-// The number of characters, or the place of the bad byte.
+// The number of characters, or refusal 1 and the place of the bad byte.
 fn show_checked(checked: Checked) {
     match checked {
         Checked::Valid(n) => show::number(n),
