@@ -1,30 +1,100 @@
 // The calls of a case, by the two letters of each.
 use crate::machine::Machine;
+use crate::machine::of_bytes;
+use crate::machine::of_numbers;
+use crate::machine::sum_all;
 use crate::places;
+use crate::registers::AREA;
 use crate::registers::FROM;
+use crate::registers::LIST;
 use crate::registers::MODE;
 use crate::registers::NUMBER;
+use crate::registers::Registers;
 use crate::registers::SOURCE;
 use crate::registers::START;
+use crate::registers::TABLE;
 use crate::registers::with;
+use crate::registers::with_state;
 use crate::scans;
 use crate::show;
 use crate::texts;
 use crate::words;
 use scanner::Part;
+use scanner::State;
+
+// A call that is lent buffers; gives the state after it.
+fn call_lent<'a>(
+    letter: u8,
+    function: u8,
+    registers: Registers,
+    source: &'a [u8],
+    table: &mut [usize],
+    list: &mut [usize],
+    area: &'a mut [u8],
+) -> State {
+    let state = scanner::state_in(&registers);
+    match letter {
+        b'P' => places::position(function, registers, state, table),
+        b'E' => places::errors(function, registers, state, list),
+        b'X' => scans::part(function, registers, state, source, area),
+        _ => scans::call(function, registers, state, source, table, list, area),
+    }
+}
+
+// Lends a call as much of each buffer as the registers say.
+fn lend(machine: Machine, source: &[u8], letter: u8, function: u8) -> Machine {
+    let registers = machine.registers;
+    let mut table = machine.table;
+    let mut list = machine.list;
+    let mut area = machine.area;
+    let t = of_numbers(registers[TABLE], &table);
+    let r = of_numbers(registers[LIST], &list);
+    let a = of_bytes(registers[AREA], &area);
+    let state = call_lent(
+        letter,
+        function,
+        registers,
+        source,
+        &mut table[..t],
+        &mut list[..r],
+        &mut area[..a],
+    );
+    let after = with_state(registers, state);
+    Machine {
+        registers: after,
+        table,
+        list,
+        area,
+    }
+}
+
+// Makes a call; behind its answer, `changed` where it changed the state or a buffer.
+fn lend_and_compare(machine: Machine, source: &[u8], letter: u8, function: u8) -> Machine {
+    let after = lend(machine, source, letter, function);
+    if sum_all(after) != sum_all(machine) {
+        show::text(b" changed");
+    }
+    after
+}
+
+// T: start i of the table is n.
+fn set_start(machine: Machine) -> Machine {
+    let registers = machine.registers;
+    let i = registers[START];
+    let mut after = machine;
+    if i < 8 {
+        after.table[i] = registers[NUMBER];
+    }
+    after
+}
 
 fn call(machine: Machine, source: &[u8], letter: u8, function: u8) -> Machine {
-    let registers = machine.registers;
     match letter {
-        b'U' => texts::utf8(source, function, registers[NUMBER], registers[START]),
-        b'K' => texts::kinds(source, function, registers[NUMBER]),
-        b'P' => return places::position(machine, function),
-        b'E' => return places::errors(machine, function),
-        b'T' => return places::start(machine, function),
-        b'S' => return scans::call(machine, source, function),
-        _ => scans::part(machine, source, function),
+        b'U' => texts::utf8(machine, source, function),
+        b'K' => texts::kinds(machine, source, function),
+        b'T' => set_start(machine),
+        _ => lend_and_compare(machine, source, letter, function),
     }
-    machine
 }
 
 // Makes the call that ends with a byte.

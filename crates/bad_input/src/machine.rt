@@ -48,6 +48,7 @@ fn sum_bytes(first: usize, bytes: &[u8]) -> usize {
     total
 }
 
+// The sum of all that a call can change.
 pub(crate) fn sum_all(machine: Machine) -> usize {
     let registers = machine.registers;
     let table = machine.table;

@@ -4,7 +4,8 @@
 // A case starts with the registers of `FRESH`; the buffers keep what they hold. Its words:
 // - a small letter and a number: the register with that letter, see `registers`
 // - bytes between two `'`: the source, see `meant`
-// - a capital and a small letter: a call, see `calls`
+// - a capital and a small letter: a call. The capital says of what:
+//   U utf8, K keywords and kinds, P position, E errors, S the scanner, X parts of the source and of the area, T the table
 mod calls;
 mod machine;
 mod places;
@@ -31,6 +32,7 @@ fn meant(byte: u8) -> u8 {
     }
 }
 
+// Puts the bytes that are meant in place of those that stand for them.
 fn replace_bytes(cases: &mut [u8]) {
     for at in 0..cases.len() {
         cases[at] = meant(cases[at]);

@@ -1,4 +1,5 @@
 // The registers of a case: a state and what a call is given, a number each.
+use scanner::State;
 
 pub(crate) type Registers = [usize; 17];
 
@@ -54,6 +55,13 @@ pub(crate) fn with(registers: Registers, i: usize, n: usize) -> Registers {
     if i < 17 {
         after[i] = n;
     }
+    after
+}
+
+// The registers with another state.
+pub(crate) fn with_state(registers: Registers, state: State) -> Registers {
+    let mut after = registers;
+    scanner::put_state(state, &mut after);
     after
 }
 

@@ -1,25 +1,13 @@
 // Calls of the scanner.
-use crate::machine::Machine;
-use crate::machine::of_bytes;
-use crate::machine::of_numbers;
-use crate::machine::sum_all;
-use crate::registers::AREA;
 use crate::registers::END;
-use crate::registers::LIST;
 use crate::registers::NUMBER;
 use crate::registers::Registers;
 use crate::registers::START;
-use crate::registers::TABLE;
 use crate::show;
 use scanner::Opened;
 use scanner::Part;
 use scanner::State;
 use scanner::Token;
-
-// The registers with another state.
-fn put(registers: &mut Registers, state: State) {
-    scanner::put_state(state, registers);
-}
 
 // Shows what opening answers, and gives the state after it.
 fn show_opened(before: State, opened: Opened) -> State {
@@ -40,17 +28,9 @@ fn show_opened(before: State, opened: Opened) -> State {
 }
 
 // Opening of the source at the base, in the size.
-fn open(machine: Machine, source: &[u8]) -> Machine {
-    let mut registers = machine.registers;
-    let mut table = machine.table;
-    let t = of_numbers(registers[TABLE], &table);
-    let state = scanner::state_in(&registers);
-    let opened = scanner::open(source, state.base, state.size, &mut table[..t]);
-    put(&mut registers, show_opened(state, opened));
-    let mut after = machine;
-    after.registers = registers;
-    after.table = table;
-    after
+fn open(source: &[u8], state: State, table: &mut [usize]) -> State {
+    let opened = scanner::open(source, state.base, state.size, table);
+    show_opened(state, opened)
 }
 
 // A part of the source or of the area, and the refusal.
@@ -63,6 +43,23 @@ fn show_part<'a>(source: &'a [u8], area: &'a [u8], part: Part) {
     }
 }
 
+// X: the part from i to j.
+pub(crate) fn part<'a>(
+    function: u8,
+    registers: Registers,
+    state: State,
+    source: &'a [u8],
+    area: &'a [u8],
+) -> State {
+    let part = Part {
+        area: function == b'a',
+        start: registers[START],
+        end: registers[END],
+    };
+    show_part(source, area, part);
+    state
+}
+
 // A token: its kind, its position, its text and its value.
 fn show_token<'a>(source: &'a [u8], area: &'a [u8], token: Token) {
     show::number(token.kind as usize);
@@ -72,7 +69,7 @@ fn show_token<'a>(source: &'a [u8], area: &'a [u8], token: Token) {
 }
 
 // Scans, shows the answer, and gives the state after it.
-fn scan_lent<'a>(
+fn scan<'a>(
     source: &'a [u8],
     state: State,
     table: &mut [usize],
@@ -88,30 +85,6 @@ fn scan_lent<'a>(
     scanned.state
 }
 
-fn scan(machine: Machine, source: &[u8]) -> Machine {
-    let mut registers = machine.registers;
-    let mut table = machine.table;
-    let mut list = machine.list;
-    let mut area = machine.area;
-    let t = of_numbers(registers[TABLE], &table);
-    let r = of_numbers(registers[LIST], &list);
-    let a = of_bytes(registers[AREA], &area);
-    let state = scan_lent(
-        source,
-        scanner::state_in(&registers),
-        &mut table[..t],
-        &mut list[..r],
-        &mut area[..a],
-    );
-    put(&mut registers, state);
-    Machine {
-        registers,
-        table,
-        list,
-        area,
-    }
-}
-
 // Place, offset, mark, line count and error count.
 fn show_state(state: State) {
     show::number(state.place);
@@ -121,56 +94,30 @@ fn show_state(state: State) {
     show::number(state.errors);
 }
 
-// The questions, of the state, the table, the list and n.
-fn ask_lent(function: u8, state: State, table: &[usize], list: &[usize], n: usize) {
+// The questions.
+fn ask(function: u8, state: State, table: &[usize], list: &[usize], n: usize) -> State {
     match function {
         b's' => show_state(state),
         b'p' => show::located(scanner::position(state, table, n)),
         b'l' => show::answer(scanner::line_start(state, table, n)),
         _ => show::got(scanner::error(state, list, n)),
     }
+    state
 }
 
-fn ask(machine: Machine, function: u8) {
-    let registers = machine.registers;
-    let table = machine.table;
-    let list = machine.list;
-    let t = of_numbers(registers[TABLE], &table);
-    let r = of_numbers(registers[LIST], &list);
-    ask_lent(
-        function,
-        scanner::state_in(&registers),
-        &table[..t],
-        &list[..r],
-        registers[NUMBER],
-    );
-}
-
-// X: the part from i to j of the source or of the area.
-pub(crate) fn part(machine: Machine, source: &[u8], function: u8) {
-    let registers = machine.registers;
-    let area = machine.area;
-    let a = of_bytes(registers[AREA], &area);
-    let part = Part {
-        area: function == b'a',
-        start: registers[START],
-        end: registers[END],
-    };
-    show_part(source, &area[..a], part);
-}
-
-// S: opening, a scan, or a question. Behind the first two, `kept` where they left the state and the buffers as they were.
-pub(crate) fn call(machine: Machine, source: &[u8], function: u8) -> Machine {
-    let after = match function {
-        b'o' => open(machine, source),
-        b'c' => scan(machine, source),
-        _ => {
-            ask(machine, function);
-            return machine;
-        }
-    };
-    if sum_all(after) == sum_all(machine) {
-        show::text(b" kept");
+// S: opening, a scan, or a question, of the state, the source, the buffers and n; gives the state after it.
+pub(crate) fn call<'a>(
+    function: u8,
+    registers: Registers,
+    state: State,
+    source: &'a [u8],
+    table: &mut [usize],
+    list: &mut [usize],
+    area: &'a mut [u8],
+) -> State {
+    match function {
+        b'o' => open(source, state, table),
+        b'c' => scan(source, state, table, list, area),
+        _ => ask(function, state, table, list, registers[NUMBER]),
     }
-    after
 }

@@ -16,7 +16,7 @@ fn check_often(text: &mut [u8]) -> usize {
         // a store into the text, so that no check can be left out
         let at = k % 8;
         if at < text.len() {
-            text[at] = 65;
+            text[at] = b'A';
         }
         last = number(utf8::check(&text[..]));
     }
