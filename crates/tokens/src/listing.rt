@@ -70,8 +70,8 @@ fn list_placed<'a>(
 ) -> Progress {
     let mut no_text = 0u8;
     let mut no_value = 0u8;
-    let text = scanner::shown(src, area, token.text, &mut no_text);
-    let value = scanner::shown(src, area, token.value, &mut no_value);
+    let text = scanner::text(src, area, token, &mut no_text);
+    let value = scanner::value(src, area, token, &mut no_value);
     if no_text != 0 {
         return over(state, waiting, no_text);
     }
