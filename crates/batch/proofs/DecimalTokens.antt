@@ -16,6 +16,7 @@ use Rattle.basics.proofs.Lists.{reach}
 use Rattle.utf8.specs.Chars.{chars}
 use Rattle.digits.specs.Digit.{isDecimal}
 use Rattle.kinds.specs.Kinds.{IDENT, INT, PERIOD}
+use Rattle.kinds.specs.Table.{operators}
 use Rattle.words.specs.Word.{isLetter}
 use Rattle.numbers.specs.declared.Number.{Number}
 use Rattle.numbers.specs.declared.Spelling.the-variants.{AsRead}
@@ -30,7 +31,7 @@ use Rattle.lexer.proofs.Numerals.{numeralAt, numeral-said}
 use Rattle.lexer.proofs.Dispatch.{number-is}
 use Rattle.batch.specs.declared.next.Next.{Next}
 use Rattle.batch.specs.Layout.{tokenNumbers}
-use Rattle.batch.specs.Simple.{startsOperator, firstKind, simpleToken, Gives}
+use Rattle.batch.specs.Simple.{rowsFrom, firstKind, simpleToken, Gives}
 use Rattle.batch.proofs.SimpleTokens.{letter-past}
 use Rattle.batch.proofs.Giving.{gives-plain}
 
@@ -40,7 +41,7 @@ none-of-three true b c d t x y z = sym t ∙ rw (x, y, z)
 
 -- a byte with which no number goes on, by what it tells
 pub goes-not-on : (b : ℕ) → b < 256 → isDecimal b ≡ false → firstKind b ≢ IDENT → firstKind b ≢ PERIOD → goesOn b ≡ false
-unfolding firstKind startsOperator isLetter
+unfolding firstKind rowsFrom operators isLetter
 goes-not-on b h d l p =
     none-of-three (goesOn b) (isDecimal b) (eqb (firstKind b) IDENT) (eqb (firstKind b) PERIOD)
     (true-of _ (every-below (λ x. not (goesOn x) || (isDecimal x || eqb (firstKind x) IDENT || eqb (firstKind x) PERIOD)) 256 tt b h)) d

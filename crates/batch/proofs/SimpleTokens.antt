@@ -8,7 +8,7 @@ use native.Mathlib.Omega.{arith}
 use native.Mathlib.Decide.{decLt}
 use lib.Dec.{T, eqb, ltb}
 use lib.ListN.{length, getD, drop}
-use borrow.Author.Tests.{ne-eqb, eqb-true, ltb-true, eq-eqb, not-true}
+use borrow.Author.Tests.{ne-eqb, eqb-true, ltb-true, le-ltb, eq-eqb, not-true}
 use Rattle.basics.specs.Same.{same}
 use Rattle.basics.specs.Spelling.{spelled}
 use Rattle.basics.proofs.Choice.{either, and-left, and-right, between-true, below-it, above-it, true-of}
@@ -38,7 +38,7 @@ use Rattle.lexer.proofs.Said.{semicolon-said}
 use Rattle.lexer.proofs.Tokens.{operator-fits, operator-said}
 use Rattle.lexer.proofs.Opened.{open-chars}
 use Rattle.lexer.proofs.Dispatch.{by-byte, is-by, feed-is, operator-is}
-use Rattle.batch.specs.Simple.{startsOperator, firstKind}
+use Rattle.batch.specs.Simple.{rowsFrom, firstKind}
 
 -- ---- what a byte tells, by computing each
 -- what only bytes tell of which a test holds
@@ -47,32 +47,36 @@ only kind P all b h e =
     rw (eq-eqb (firstKind b) kind e) at (true-of (not (eqb (firstKind b) kind) || P b) (every-below (λ x. not (eqb (firstKind x) kind) || P x) 256 all b h))
 
 pub letter-first : (b : ℕ) → b < 256 → firstKind b ≡ IDENT → isLetter b ≡ true
-unfolding firstKind startsOperator isLetter
+unfolding firstKind rowsFrom operators isLetter
 letter-first = only IDENT isLetter tt
 
+-- the bytes that start an operator
+abbrev pub startsOperator : ℕ → Bool
+startsOperator b = isOneOf b (spelled "!%&*+-:<=>^|")
+
 pub operator-first : (b : ℕ) → b < 256 → firstKind b ≡ ADD → startsOperator b ≡ true
-unfolding firstKind startsOperator isLetter
+unfolding firstKind rowsFrom operators isLetter
 operator-first = only ADD startsOperator tt
 
 pub digit-first : (b : ℕ) → b < 256 → firstKind b ≡ INT → isDecimal b ≡ true
-unfolding firstKind startsOperator isLetter
+unfolding firstKind rowsFrom operators isLetter
 digit-first = only INT isDecimal tt
 
 pub quote-first : (b : ℕ) → b < 256 → firstKind b ≡ STRING → b ≡ 34
-unfolding firstKind startsOperator isLetter
+unfolding firstKind rowsFrom operators isLetter
 quote-first b h e = eqb-true b 34 (only STRING (λ x. eqb x 34) tt b h e)
 
 pub first-small : (b : ℕ) → b < 256 → firstKind b < 128
-unfolding firstKind startsOperator isLetter
+unfolding firstKind rowsFrom operators isLetter
 first-small b h = ltb-true (firstKind b) 128 (true-of _ (every-below (λ x. ltb (firstKind x) 128) 256 tt b h))
 
 -- a digit tells a number
 pub first-digit : (b : ℕ) → isDecimal b ≡ true → firstKind b ≡ INT
-unfolding firstKind startsOperator isLetter
+unfolding firstKind rowsFrom operators isLetter
 first-digit b d = let q = between-true 48 b 57 d in sym (value-within firstKind INT 48 10 tt b (q .0) (omega (arith, q .1)))
 
 pub first-known : (b : ℕ) → b < 256 → eqb (firstKind b) EOF ≡ false
-unfolding firstKind startsOperator isLetter
+unfolding firstKind rowsFrom operators isLetter
 first-known b h = not-true _ (true-of _ (every-below (λ x. not (eqb (firstKind x) EOF)) 256 tt b h))
 
 -- the kind of a word is that of an identifier or a keyword
@@ -80,40 +84,14 @@ pub word-small : (kind : ℕ) (word : List ℕ) → kind ≡ identToken word →
 word-small kind word e =
     ⊎-elim (λ i. omega (arith, e, i)) (λ t. let q = between-true BREAK (identToken word) VAR t in omega (arith, e, q .1)) (word-kind word)
 
--- ---- what holds of each delimiter holds of a byte that tells something, but no word, operator, string or number
-one-of : (P : ℕ → Type 0) (b x kind rest : ℕ) → P x → (rest ≢ ILLEGAL → P b) → cond (eqb b x) kind rest ≢ ILLEGAL → P b
-one-of P b x kind rest here more n =
-    ⊎-elim (λ (e : eqb b x ≡ true). subst P (sym (eqb-true b x e)) here) (λ (e : eqb b x ≡ false). more (rw e at n)) (either (eqb b x))
-
-no-letter : (b : ℕ) → firstKind b ≢ IDENT → isLetter b ≡ false
-unfolding firstKind
-no-letter b n = ⊎-elim (λ (e : isLetter b ≡ true). absurd (n (rw e))) (λ e. e) (either (isLetter b))
-
-no-operator : (b : ℕ) → isLetter b ≡ false → firstKind b ≢ ADD → startsOperator b ≡ false
-unfolding firstKind
-no-operator b l n = ⊎-elim (λ (e : startsOperator b ≡ true). absurd (n (rw (l, e)))) (λ e. e) (either (startsOperator b))
-
-no-quote : (b : ℕ) → firstKind b ≢ STRING → eqb b 34 ≡ false
-unfolding firstKind startsOperator isLetter
-no-quote b n = ne-eqb b 34 (λ e. n (ap firstKind e))
-
 pub no-digit : (b : ℕ) → firstKind b ≢ INT → isDecimal b ≡ false
 no-digit b n = ⊎-elim (λ (e : isDecimal b ≡ true). absurd (n (first-digit b e))) (λ e. e) (either (isDecimal b))
 
-delimiter-ind : (P : ℕ → Type 0) → P 40 → P 41 → P 44 → P 46 → P 59 → P 91 → P 93 → P 123 → P 125
-    → (b : ℕ) → firstKind b ≢ ILLEGAL → firstKind b ≢ IDENT → firstKind b ≢ ADD → firstKind b ≢ STRING → firstKind b ≢ INT → P b
-unfolding firstKind
-delimiter-ind P lparen rparen comma period semicolon lbrack rbrack lbrace rbrace b n i a q d =
-    (one-of P b 40 LPAREN _ lparen
-    (one-of P b 41 RPAREN _ rparen
-    (one-of P b 44 COMMA _ comma
-    (one-of P b 46 PERIOD _ period
-    (one-of P b 59 SEMICOLON _ semicolon
-    (one-of P b 91 LBRACK _ lbrack
-    (one-of P b 93 RBRACK _ rbrack
-    (one-of P b 123 LBRACE _ lbrace
-    (one-of P b 125 RBRACE _ rbrace (λ z. absurd (z (rw (no-quote b q, no-digit b d)))))))))))))
-    (rw (no-letter b i, no-operator b (no-letter b i) a) at n)
+-- a byte that tells a kind from LPAREN on is a delimiter
+delimiter-first : (b : ℕ) → b < 256 → LPAREN ≤ firstKind b → isOneOf b (spelled "(),.;[]{}") ≡ true
+unfolding firstKind rowsFrom operators isLetter
+delimiter-first b h high =
+    rw (le-ltb (firstKind b) LPAREN high) at (true-of (ltb (firstKind b) LPAREN || isOneOf b (spelled "(),.;[]{}")) (every-below (λ x. ltb (firstKind x) LPAREN || isOneOf x (spelled "(),.;[]{}")) 256 tt b h))
 
 -- a letter is past the digits and the point
 pub letter-past : (b : ℕ) → isLetter b ≡ true → 65 ≤ b
@@ -140,7 +118,7 @@ abbrev ByItself : ℕ → Type 0
 ByItself b = T (ltb 0 b && (ltb b 0x80 && spells (b ∷ []) operators)) × ((mark : Bool) (r : List Char) → lexBy mark b r ≡ lexOperator mark r)
 
 starts : (b : ℕ) → startsOperator b ≡ true → ByItself b
-unfolding startsOperator lexBy isLetter operators same
+unfolding lexBy isLetter operators same
 starts =
     one-ind ByItself (spelled "!%&*+-:<=>^|")
     (also (tt, λ mark r. refl)
@@ -188,22 +166,23 @@ module _ (s : List ℕ) (at : ℕ) (mark : Bool) where
       → said s at (madeAt (firstKind b) at (at + 1) (setsMark (firstKind b)) Empty NoValue) ≡ placed s at (lexToken mark (chars (drop at s)))
 
   point-read : Reads 46
-  unfolding firstKind startsOperator isLetter
+  unfolding firstKind rowsFrom operators isLetter
   point-read e p = point (p refl) e
 
-  pub delimiter-read : (b : ℕ) → firstKind b ≢ ILLEGAL → firstKind b ≢ IDENT → firstKind b ≢ ADD → firstKind b ≢ STRING → firstKind b ≢ INT → Reads b
-  unfolding firstKind startsOperator isLetter lexBy operators
-  delimiter-read =
-      delimiter-ind Reads
-      (λ e p. alone 40 LPAREN (omega arith) refl (λ z. omega arith) refl e)
-      (λ e p. alone 41 RPAREN (omega arith) refl (λ z. omega arith) refl e)
-      (λ e p. alone 44 COMMA (omega arith) refl (λ z. omega arith) refl e)
-      point-read
-      (λ e p. alone 59 SEMICOLON (omega arith) refl (λ z. omega arith) refl e)
-      (λ e p. alone 91 LBRACK (omega arith) refl (λ z. omega arith) refl e)
-      (λ e p. alone 93 RBRACK (omega arith) refl (λ z. omega arith) refl e)
-      (λ e p. alone 123 LBRACE (omega arith) refl (λ z. omega arith) refl e)
-      (λ e p. alone 125 RBRACE (omega arith) refl (λ z. omega arith) refl e)
+  pub delimiter-read : (b : ℕ) → b < 256 → LPAREN ≤ firstKind b → Reads b
+  unfolding firstKind rowsFrom isLetter lexBy operators
+  delimiter-read b h high =
+      one-ind Reads (spelled "(),.;[]{}")
+      (also (λ e p. alone 40 LPAREN (omega arith) refl (λ z. omega arith) refl e)
+      (also (λ e p. alone 41 RPAREN (omega arith) refl (λ z. omega arith) refl e)
+      (also (λ e p. alone 44 COMMA (omega arith) refl (λ z. omega arith) refl e)
+      (also point-read
+      (also (λ e p. alone 59 SEMICOLON (omega arith) refl (λ z. omega arith) refl e)
+      (also (λ e p. alone 91 LBRACK (omega arith) refl (λ z. omega arith) refl e)
+      (also (λ e p. alone 93 RBRACK (omega arith) refl (λ z. omega arith) refl e)
+      (also (λ e p. alone 123 LBRACE (omega arith) refl (λ z. omega arith) refl e)
+      (also (λ e p. alone 125 RBRACE (omega arith) refl (λ z. omega arith) refl e) none)))))))))
+      b (delimiter-first b h high)
 
   -- the semicolon before a line feed
   pub feed-read : getD s at 0 ≡ 10 → said s at (insertedAt at) ≡ placed s at (lexToken mark (chars (drop at s)))

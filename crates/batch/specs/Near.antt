@@ -1,5 +1,6 @@
 -- Blanks between most tokens, as the code of many scans reads them. No public contract cites this.
 use Prim.Native.Nat.{ℕ, _+_}
+use Prim.Native.Char.{code}
 use mathlib.Core.Path.{_≡_}
 use mathlib.Core.Bool.{Bool, true, cond}
 use mathlib.Core.List.{List}
@@ -10,9 +11,12 @@ use Rattle.blanks.specs.declared.Skipped.{Skipped}
 use Rattle.blanks.specs.Blank.{skip, skippedAt}
 use Rattle.batch.specs.declared.near.Near.{Near}
 
+abbrev pub lineFeed : ℕ
+lineFeed = code "\n"
+
 -- a place is another one, or behind a space there
 abbrev pub SpaceTo : List ℕ → ℕ → ℕ → Type 0
-SpaceTo src at p = (p ≡ at) ⊎ ((getD src at 0 ≡ 32) × (p ≡ at + 1))
+SpaceTo src at p = (p ≡ at) ⊎ ((getD src at 0 ≡ code " ") × (p ≡ at + 1))
 
 -- the blanks that it says
 abbrev pub nearAs : Near → Skipped

@@ -1,17 +1,16 @@
 -- Simple tokens, as the code of many scans reads them. No public contract cites this.
 use Prim.Native.Nat.{ℕ, _+_, _-_, _<_}
+use Prim.Native.Char.{code}
 use mathlib.Core.Path.{_≡_}
 use mathlib.Core.Bool.{Bool, true, false, cond}
-use mathlib.Core.List.{List}
+use mathlib.Core.List.{List, [], _∷_}
 use lib.Dec.{eqb}
 use lib.ListN.{length, drop, getD}
 use lib.Seq.{sets}
-use Rattle.basics.specs.Spelling.{spelled}
 use Rattle.utf8.specs.Chars.{chars}
 use Rattle.digits.specs.Digit.{isDecimal}
-use Rattle.kinds.specs.Kinds.{ILLEGAL, EOF, IDENT, INT, STRING, ADD, LPAREN, LBRACK, LBRACE, COMMA, PERIOD, RPAREN, RBRACK, RBRACE, SEMICOLON}
-use Rattle.kinds.specs.Precedence.{among}
-use Rattle.kinds.specs.Table.{keywords}
+use Rattle.kinds.specs.Kinds.{ILLEGAL, EOF, IDENT, INT, STRING, ADD, PERIOD}
+use Rattle.kinds.specs.Table.{Row, operators, keywords}
 use Rattle.keywords.specs.Search.{bySlot, rowIn}
 use Rattle.words.specs.Word.{isLetter}
 use Rattle.lexer.specs.declared.lexed.Lexed.{Lexed}
@@ -22,29 +21,33 @@ use Rattle.batch.specs.declared.next.Next.{Next}
 use Rattle.batch.specs.Layout.{tokenNumbers}
 use Rattle.scanner.specs.Steps.{isPlain, tokenBy}
 
--- the first bytes of operators, but for a slash, which may start a comment
-unfoldable pub startsOperator : ℕ → Bool
-startsOperator b = among b (spelled "!%&*+-:<=>^|")
+-- the rows whose name starts with a byte
+unfoldable pub rowsFrom : ℕ → List Row → List Row
+rowsFrom b [] = []
+rowsFrom b (row ∷ rows) = cond (eqb (getD (row .name) 0 0) b) (row ∷ rowsFrom b rows) (rowsFrom b rows)
 
--- what a first byte tells
+-- what the first byte of these operators tells: a delimiter of its kind, if it is the only one and all of it; else ADD
+abbrev pub operatorFirst : List Row → ℕ
+operatorFirst [] = ILLEGAL
+operatorFirst (row ∷ []) = cond (eqb (length (row .name)) 1) (row .kind) ADD
+operatorFirst (row ∷ next ∷ rows) = ADD
+
+-- the double quote, with which a string starts and ends
+abbrev pub quote : ℕ
+quote = code "\""
+
+-- what a first byte tells; behind a point there may be a number or another operator, a slash may start a comment
 unfoldable pub firstKind : ℕ → ℕ
 firstKind b =
     cond (isLetter b) IDENT
-    (cond (startsOperator b) ADD
-    (cond (eqb b 40) LPAREN
-    (cond (eqb b 41) RPAREN
-    (cond (eqb b 44) COMMA
-    (cond (eqb b 46) PERIOD
-    (cond (eqb b 59) SEMICOLON
-    (cond (eqb b 91) LBRACK
-    (cond (eqb b 93) RBRACK
-    (cond (eqb b 123) LBRACE
-    (cond (eqb b 125) RBRACE
-    (cond (eqb b 34) STRING (cond (isDecimal b) INT ILLEGAL))))))))))))
+    (cond (isDecimal b) INT
+    (cond (eqb b quote) STRING
+    (cond (eqb b (code ".")) PERIOD
+    (cond (eqb b (code "/")) ILLEGAL (operatorFirst (rowsFrom b operators))))))
 
 -- the table of what each first byte tells
 abbrev pub IsTable : List ℕ → Type 0
-IsTable kinds = (length kinds ≡ 256) × ((b : ℕ) → b < 256 → getD kinds b 0 ≡ firstKind b)
+IsTable table = (length table ≡ 256) × ((b : ℕ) → b < 256 → getD table b 0 ≡ firstKind b)
 
 -- the tables of the keywords of at most eight bytes: their numbers and their kinds, each in its slot
 abbrev pub IsKeywords : List ℕ → List ℕ → Type 0

@@ -6,36 +6,36 @@ ghost use Rattle.batch.specs.Simple.{IsTable};
 pub(crate) fn first_kinds() -> [u8; 256]
     ensures { λ r. ⌜ IsTable r ⌝ }
 {
-    let mut kinds = [kinds::ILLEGAL; 256];
-    kinds[33] = kinds::ADD;
-    kinds[34] = kinds::STRING;
-    kinds[37] = kinds::ADD;
-    kinds[38] = kinds::ADD;
-    kinds[40] = kinds::LPAREN;
-    kinds[41] = kinds::RPAREN;
-    kinds[42] = kinds::ADD;
-    kinds[43] = kinds::ADD;
-    kinds[44] = kinds::COMMA;
-    kinds[45] = kinds::ADD;
-    kinds[46] = kinds::PERIOD;
-    kinds[58] = kinds::ADD;
-    kinds[59] = kinds::SEMICOLON;
-    kinds[60] = kinds::ADD;
-    kinds[61] = kinds::ADD;
-    kinds[62] = kinds::ADD;
-    kinds[91] = kinds::LBRACK;
-    kinds[93] = kinds::RBRACK;
-    kinds[94] = kinds::ADD;
-    kinds[95] = kinds::IDENT;
-    kinds[123] = kinds::LBRACE;
-    kinds[124] = kinds::ADD;
-    kinds[125] = kinds::RBRACE;
-    for b in 65..91usize {
-        kinds[b] = kinds::IDENT;
-        kinds[b + 32] = kinds::IDENT;
+    let mut table = [kinds::ILLEGAL; 256];
+    table[b'!' as usize] = kinds::ADD;
+    table[b'"' as usize] = kinds::STRING;
+    table[b'%' as usize] = kinds::ADD;
+    table[b'&' as usize] = kinds::ADD;
+    table[b'(' as usize] = kinds::LPAREN;
+    table[b')' as usize] = kinds::RPAREN;
+    table[b'*' as usize] = kinds::ADD;
+    table[b'+' as usize] = kinds::ADD;
+    table[b',' as usize] = kinds::COMMA;
+    table[b'-' as usize] = kinds::ADD;
+    table[b'.' as usize] = kinds::PERIOD;
+    table[b':' as usize] = kinds::ADD;
+    table[b';' as usize] = kinds::SEMICOLON;
+    table[b'<' as usize] = kinds::ADD;
+    table[b'=' as usize] = kinds::ADD;
+    table[b'>' as usize] = kinds::ADD;
+    table[b'[' as usize] = kinds::LBRACK;
+    table[b']' as usize] = kinds::RBRACK;
+    table[b'^' as usize] = kinds::ADD;
+    table[b'_' as usize] = kinds::IDENT;
+    table[b'{' as usize] = kinds::LBRACE;
+    table[b'|' as usize] = kinds::ADD;
+    table[b'}' as usize] = kinds::RBRACE;
+    for i in 0..26usize {
+        table[b'A' as usize + i] = kinds::IDENT;
+        table[b'a' as usize + i] = kinds::IDENT;
     }
-    for b in 48..58usize {
-        kinds[b] = kinds::INT;
+    for i in 0..10usize {
+        table[b'0' as usize + i] = kinds::INT;
     }
-    kinds
+    table
 }

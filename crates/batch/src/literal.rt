@@ -12,7 +12,7 @@ ghost use lib.ListN.{length, getD};
 ghost use lib.Seq.{sets};
 ghost use Rattle.digits.specs.Digit.{isDecimal};
 ghost use Rattle.batch.specs.Layout.{tokenWidth, tokenNumbers};
-ghost use Rattle.batch.specs.Simple.{IsTable, stringToken, Gives};
+ghost use Rattle.batch.specs.Simple.{quote, IsTable, stringToken, Gives};
 
 // Where the digits from a place on end, at the latest at the safe place.
 fn digits_end(src: &[u8], firsts: &[u8; 256], at: usize, safe: usize) -> usize
@@ -55,7 +55,7 @@ pub(crate) fn decimal(
     if next == kinds::PERIOD {
         return none(at);
     }
-    if src[at] == 48 {
+    if src[at] == b'0' {
         if end != at + 1 {
             return none(at);
         }
@@ -103,14 +103,14 @@ pub(crate) fn string(
     tokens: &mut [usize],
     to: usize,
 ) -> Next
-    requires { ⌜ (at < safe) × (safe < length (now src)) × (getD (now src) at 0 ≡ 34) × (to + tokenWidth ≤ length (now tokens)) ⌝ }
+    requires { ⌜ (at < safe) × (safe < length (now src)) × (getD (now src) at 0 ≡ quote) × (to + tokenWidth ≤ length (now tokens)) ⌝ }
     ensures { λ r. ⌜ Gives (now (src .entry)) at safe position (now (tokens .entry)) to r (now (tokens .exit)) ⌝ }
 {
     let close = quotes::plain_string(src, at + 1);
     if safe <= close {
         return none(at);
     }
-    if src[close] != 34 {
+    if src[close] != b'"' {
         return none(at);
     }
     put_string(at, close, position, tokens, to);

@@ -3,7 +3,7 @@ ghost use mathlib.Core.Path.{_≡_};
 ghost use mathlib.Core.Bool.{false};
 ghost use Prim.Native.Nat.{_+_, _≤_};
 ghost use lib.ListN.{length, getD};
-ghost use Rattle.batch.specs.Near.{SpaceTo, NearAt};
+ghost use Rattle.batch.specs.Near.{lineFeed, SpaceTo, NearAt};
 
 // Such blanks: whether they are, the place after them, whether they have a line feed, and the place after it, or where they start.
 // (Small fields side by side would be packed into one number and taken out of it again.)
@@ -53,7 +53,7 @@ pub(crate) fn near_blanks(src: &[u8], at: usize, mark: bool) -> Near
 
 // The same where a line feed stands at the place p, behind a space or nothing.
 fn line_feed(src: &[u8], at: usize, p: usize, mark: bool) -> Near
-    requires { ⌜ (p + 10 ≤ length (now src)) × (getD (now src) p 0 ≡ 10) × SpaceTo (now src) at p ⌝ }
+    requires { ⌜ (p + 10 ≤ length (now src)) × (getD (now src) p 0 ≡ lineFeed) × SpaceTo (now src) at p ⌝ }
     ensures { λ r. ⌜ NearAt (now (src .entry)) at mark r ⌝ }
 {
     if mark {

@@ -8,12 +8,12 @@ use crate::next::put_shown;
 use crate::next::sets_mark;
 use crate::word::word;
 ghost use mathlib.Core.Path.{_≡_};
-ghost use mathlib.Core.Bool.{true};
 ghost use Prim.Native.Nat.{_+_, _≤_, _<_};
 ghost use lib.ListN.{length, getD};
-ghost use Rattle.kinds.specs.Kinds.{LPAREN};
+ghost use Rattle.kinds.specs.Kinds.{ADD, LPAREN};
 ghost use Rattle.batch.specs.Layout.{tokenWidth};
-ghost use Rattle.batch.specs.Simple.{firstKind, startsOperator, IsTable, IsKeywords, Gives};
+ghost use Rattle.batch.specs.Near.{lineFeed};
+ghost use Rattle.batch.specs.Simple.{firstKind, IsTable, IsKeywords, Gives};
 
 // Gives the operator at a place.
 fn operator(
@@ -24,7 +24,7 @@ fn operator(
     tokens: &mut [usize],
     to: usize,
 ) -> Next
-    requires { ⌜ (at < safe) × (safe ≤ length (now src)) × (startsOperator (getD (now src) at 0) ≡ true) × (to + tokenWidth ≤ length (now tokens)) ⌝ }
+    requires { ⌜ (at < safe) × (safe ≤ length (now src)) × (firstKind (getD (now src) at 0) ≡ ADD) × (to + tokenWidth ≤ length (now tokens)) ⌝ }
     ensures { λ r. ⌜ Gives (now (src .entry)) at safe position (now (tokens .entry)) to r (now (tokens .exit)) ⌝ }
 {
     let o = operators::scan_operator(src, at);
@@ -74,7 +74,7 @@ fn semicolon(
     tokens: &mut [usize],
     to: usize,
 ) -> Next
-    requires { ⌜ (at < safe) × (getD (now src) at 0 ≡ 10) × (to + tokenWidth ≤ length (now tokens)) ⌝ }
+    requires { ⌜ (at < safe) × (getD (now src) at 0 ≡ lineFeed) × (to + tokenWidth ≤ length (now tokens)) ⌝ }
     ensures { λ r. ⌜ Gives (now (src .entry)) at safe position (now (tokens .entry)) to r (now (tokens .exit)) ⌝ }
 {
     put_shown(kinds::SEMICOLON, true, position, at, at, tokens, to);
@@ -118,7 +118,7 @@ pub(crate) fn give_simple(
     if first >= kinds::LPAREN {
         return delimiter(src, firsts, at, safe, first, position, tokens, to);
     }
-    if b == 10 {
+    if b == b'\n' {
         return semicolon(src, at, safe, position, tokens, to);
     }
     if first == kinds::ADD {

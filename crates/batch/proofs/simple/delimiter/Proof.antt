@@ -1,15 +1,14 @@
 -- `simple::delimiter` meets its contract: a byte that tells a delimiter, for a point with a letter behind it.
 use Prim.Native.Nat.{ℕ, _+_, _<_}
 use mathlib.Core.Bool.{false, true}
-use mathlib.Core.Logic.{_≢_, ⊎-elim}
+use mathlib.Core.Logic.{⊎-elim}
 use mathlib.Core.Path.{_≡_, refl, sym, _∙_}
 use native.Mathlib.Nat.{add-zero}
 use native.Mathlib.Omega.{arith}
-use lib.Dec.{lit<}
 use lib.ListN.{getD}
 use borrow.Author.Tests.{ne-eqb}
 use borrow.Author.Needs.{needs}
-use Rattle.kinds.specs.Kinds.{ILLEGAL, IDENT, INT, STRING, ADD, LPAREN, PERIOD}
+use Rattle.kinds.specs.Kinds.{STRING, PERIOD}
 use Rattle.words.specs.Word.{isLetter}
 use Rattle.lexer.specs.declared.lexed.Text.the-variants.{Empty}
 use Rattle.kinds.specs.Table.{setsMark}
@@ -79,9 +78,8 @@ returns-2 c =
     let small = byte-small (j .before) in
     let is = s .pre .3 in
     let high = s .pre .4 in
-    let low : (k : ℕ) → k < LPAREN → firstKind b ≢ k = λ k l e. omega (arith, is, high, e, l) in
     gives-plain (a .src .now) (a .at) (a .safe) (a .position) (a .tokens .now) (a .to) (a .kind) (a .at + 1) false (setsMark (a .kind)) Empty 0
-    (λ m. rw is (delimiter-read (a .src .now) (a .at) m b (low ILLEGAL (lit< tt)) (low IDENT (lit< tt)) (low ADD (lit< tt)) (low STRING (lit< tt)) (low INT (lit< tt)) refl (letter j)))
+    (λ m. rw is (delimiter-read (a .src .now) (a .at) m b small (rw is at high) refl (letter j)))
     (rw is (first-known b small)) (ne-eqb (a .kind) STRING (λ e. omega (arith, high, e))) (omega (arith, s .pre .1)) (rw (c .sets-mark .ensures)) (p .put-shown .ensures ∙ rw (add-zero (a .at)))
 
 pub delimiter-spec : {M : Type 1} → statement M

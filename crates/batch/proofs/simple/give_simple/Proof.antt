@@ -5,7 +5,7 @@ use native.Mathlib.Omega.{arith}
 use lib.ListN.{getD}
 use borrow.Author.Needs.{needs}
 use Rattle.batch.specs.Simple.{firstKind}
-use Rattle.batch.proofs.SimpleTokens.{letter-first, operator-first, digit-first, quote-first}
+use Rattle.batch.proofs.SimpleTokens.{letter-first, digit-first, quote-first}
 use Rattle.batch.proofs.Giving.{gives-none}
 use Rattle.batch.proofs.simple.give_simple.Statement.{statement}
 use Rattle.batch.proofs.simple.give_simple.Tie as tie
@@ -65,7 +65,7 @@ operator-requires : tie.Need-operator-requires
 operator-requires c κs =
     let f = c .before .before .before .before .before in
     let s = f .before .before .before .before in
-    (s .pre .2, omega (arith, s .pre .3), operator-first _ (small f) (sym (first-is f) ∙ c .before .if4 .taken), s .pre .4)
+    (s .pre .2, omega (arith, s .pre .3), sym (first-is f) ∙ c .before .if4 .taken, s .pre .4)
 
 same-length-4 : tie.Need-same-length-4
 same-length-4 c = search needs

@@ -1,18 +1,18 @@
 -- `simple::operator` meets its contract: there is an operator, as its first byte is one by itself.
 use Prim.Native.Nat.{_+_, _≤_}
-use mathlib.Core.Bool.{false}
-use mathlib.Core.Path.{_∙_}
+use mathlib.Core.Bool.{true, false}
+use mathlib.Core.Path.{_≡_, _∙_}
 use native.Mathlib.Nat.{add-zero}
 use native.Mathlib.Omega.{arith}
 use borrow.Author.Tests.{ne-eqb}
 use borrow.Author.Needs.{needs}
-use lib.ListN.{drop}
+use lib.ListN.{drop, getD}
 use Rattle.utf8.specs.Chars.{chars}
 use Rattle.kinds.specs.Kinds.{EOF, STRING}
 use Rattle.operators.proofs.Bounds.{operator-short}
 use Rattle.lexer.specs.declared.lexed.Text.the-variants.{Empty}
 use Rattle.kinds.specs.Table.{setsMark}
-use Rattle.batch.proofs.SimpleTokens.{operator-kind, operator-within, operator-reads}
+use Rattle.batch.proofs.SimpleTokens.{startsOperator, operator-first, operator-kind, operator-within, operator-reads}
 use Rattle.batch.proofs.Giving.{gives-plain}
 use Rattle.batch.proofs.simple.operator.Statement.{statement}
 use Rattle.batch.proofs.simple.operator.Tie as tie
@@ -23,17 +23,24 @@ scan-operator-requires c κs = search needs
 put-shown-requires : tie.Need-put-shown-requires
 put-shown-requires c κs = search needs
 
+-- the byte there starts an operator
+starts : (x : tie.After-scan-operator)
+    → let a = x .before .before .before .args in startsOperator (getD (a .src .now) (a .at) 0) ≡ true
+starts x =
+    let s = x .before .before .before in
+    operator-first _ (omega (arith, x .before .before .shared-slice-known .given (s .args .at))) (s .pre .2)
+
 add-t12 : tie.Need-add-t12
 add-t12 c =
     let x = c .before .before .before .before .before in
     let s = x .before .before .before in
-    omega (arith, operator-within (s .args .src .now) (s .args .at) (x .scan-operator .result) (x .scan-operator .ensures) (s .pre .2))
+    omega (arith, operator-within (s .args .src .now) (s .args .at) (x .scan-operator .result) (x .scan-operator .ensures) (starts x))
 
 sets-mark-requires : tie.Need-sets-mark-requires
 sets-mark-requires c κs =
     let x = c .before .before .before .before .before in
     let s = x .before .before .before in
-    omega (arith, operator-kind (s .args .src .now) (s .args .at) (x .scan-operator .result) (x .scan-operator .ensures) (s .pre .2) .1)
+    omega (arith, operator-kind (s .args .src .now) (s .args .at) (x .scan-operator .result) (x .scan-operator .ensures) (starts x) .1)
 
 same-length : tie.Need-same-length
 same-length c = search needs
@@ -46,10 +53,10 @@ returns c =
     let a = s .args in
     let o = x .scan-operator .result in
     let is = x .scan-operator .ensures in
-    let k = operator-kind (a .src .now) (a .at) o is (s .pre .2) in
+    let k = operator-kind (a .src .now) (a .at) o is (starts x) in
     let n : o .len ≤ 3 = rw is (operator-short (chars (drop (a .at) (a .src .now)))) in
     gives-plain (a .src .now) (a .at) (a .safe) (a .position) (a .tokens .now) (a .to) (o .kind) (a .at + o .len) false (setsMark (o .kind)) Empty 0
-    (operator-reads (a .src .now) (a .at) o is (s .pre .2))
+    (operator-reads (a .src .now) (a .at) o is (starts x))
     (ne-eqb (o .kind) EOF (λ e. omega (arith, e, k .0))) (ne-eqb (o .kind) STRING (λ e. omega (arith, e, k .0)))
     (omega (arith, n, s .pre .0)) (rw (c .sets-mark .ensures)) (p .put-shown .ensures ∙ rw (add-zero (a .at)))
 
