@@ -54,13 +54,12 @@ impl State {
         ensures { λ r. ⌜ r ≡ advance self place offset mark lines errors ⌝ }
     {
         State {
-            base: self.base,
-            size: self.size,
             place,
             offset,
             mark,
             lines,
             errors,
+            ..self
         }
     }
 
