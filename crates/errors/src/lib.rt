@@ -4,22 +4,22 @@ ghost use Rattle.errors.specs.Answers.{outcome, got};
 ghost use Rattle.errors.specs.Errors.{roomOf, addTo, getOf};
 
 mod layout;
-mod numbers;
+mod names;
 
 pub use layout::Error;
-pub use numbers::BAD_BINARY;
-pub use numbers::BAD_ESCAPE;
-pub use numbers::BAD_EXPONENT;
-pub use numbers::BAD_HEXADECIMAL;
-pub use numbers::BAD_OCTAL;
-pub use numbers::CUT_ESCAPE;
-pub use numbers::MISPLACED_UNDERSCORE;
-pub use numbers::NO_CODE_POINT;
-pub use numbers::NOT_ONE_CHARACTER;
-pub use numbers::OPEN_COMMENT;
-pub use numbers::OPEN_QUOTE;
-pub use numbers::OPEN_RAW_STRING;
-pub use numbers::UNKNOWN_ESCAPE;
+pub use names::BAD_BINARY;
+pub use names::BAD_ESCAPE;
+pub use names::BAD_EXPONENT;
+pub use names::BAD_HEXADECIMAL;
+pub use names::BAD_OCTAL;
+pub use names::CUT_ESCAPE;
+pub use names::MISPLACED_UNDERSCORE;
+pub use names::NO_CODE_POINT;
+pub use names::NOT_ONE_CHARACTER;
+pub use names::OPEN_COMMENT;
+pub use names::OPEN_QUOTE;
+pub use names::OPEN_RAW_STRING;
+pub use names::UNKNOWN_ESCAPE;
 
 // The number of errors after one was added, or the number of the refusal.
 pub enum Added {
