@@ -30,9 +30,10 @@ fn operator(
     let o = operators::scan_operator(src, at);
     let kind = o.kind;
     put_shown(kind, false, position, at, at, tokens, to);
+    let place = at + o.len;
     Next {
         found: true,
-        place: at + o.len,
+        place,
         mark: sets_mark(kind),
     }
 }
@@ -58,9 +59,10 @@ fn delimiter(
         }
     }
     put_shown(kind, false, position, at, at, tokens, to);
+    let place = at + 1;
     Next {
         found: true,
-        place: at + 1,
+        place,
         mark: sets_mark(kind),
     }
 }
