@@ -114,9 +114,10 @@ pub(crate) fn string(
         return none(at);
     }
     put_string(at, close, position, tokens, to);
+    let place = close + 1;
     Next {
         found: true,
-        place: close + 1,
+        place,
         mark: true,
     }
 }

@@ -1,6 +1,6 @@
 // Many scans in one call: token after token, each by its numbers.
 use crate::first::first_kinds;
-use crate::round::Round;
+use crate::round::first_round;
 use crate::round::scan_round;
 use scanner::Token;
 use state::State;
@@ -30,6 +30,16 @@ fn refused(number: u8, state: State) -> Batch
     }
 }
 
+fn gave(state: State, count: usize) -> Batch
+    ensures { λ r. ⌜ r ≡ record { refusal = 0; state = state; count = count } ⌝ }
+{
+    Batch {
+        refusal: 0,
+        state,
+        count,
+    }
+}
+
 // Scans until a token is the last, the next scan would be refused or there is no room for one more token.
 fn scan_rounds(
     src: &[u8],
@@ -45,20 +55,15 @@ fn scan_rounds(
 {
     let room = tokens.len() / Token::NUMBERS;
     let firsts = first_kinds();
-    let numbers = keywords::keyword_numbers();
-    let kinds = keywords::keyword_kinds();
-    let mut round = Round {
-        more: true,
-        state: first,
-        refusal: 0,
-        count: 0,
-    };
+    let keys = keywords::keyword_numbers();
+    let values = keywords::keyword_kinds();
+    let mut round = first_round(first);
     while round.more {
         round = scan_round(
             src,
             &firsts,
-            &numbers,
-            &kinds,
+            &keys,
+            &values,
             round,
             table,
             list,
@@ -70,12 +75,7 @@ fn scan_rounds(
     if round.count == 0 {
         return refused(round.refusal, first);
     }
-    let state = round.state;
-    Batch {
-        refusal: 0,
-        state,
-        count: round.count,
-    }
+    gave(round.state, round.count)
 }
 
 // Scans token after token, as many as `tokens` has room for, ten numbers each. It stops behind a token that shows something from the text

@@ -67,8 +67,9 @@ fn line_feed(src: &[u8], at: usize, p: usize, mark: bool) -> Near
     let line = p + 1;
     let tabs = u64::trailing_zeros(swar::eight(src, line) ^ 0x0909_0909_0909_0909) as usize / 8;
     let end = line + tabs;
+    let next = src[end];
     Near {
-        found: src[end] > b' ',
+        found: next > b' ',
         end,
         lf: true,
         line,

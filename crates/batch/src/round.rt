@@ -6,7 +6,7 @@ use scanner::Token;
 use scanner::scan;
 use state::State;
 ghost use mathlib.Core.Path.{_≡_};
-ghost use mathlib.Core.Bool.{true, not, _&&_};
+ghost use mathlib.Core.Bool.{true, false, not, _&&_};
 ghost use Prim.Native.Nat.{_*_, _≤_, _<_};
 ghost use lib.Dec.{ltb};
 ghost use lib.ListN.{length};
@@ -22,6 +22,30 @@ pub(crate) struct Round {
     pub(crate) state: State,
     pub(crate) refusal: u8,
     pub(crate) count: usize,
+}
+
+// Before the first scan.
+pub(crate) fn first_round(state: State) -> Round
+    ensures { λ r. ⌜ r ≡ record { more = true; state = state; refusal = 0; count = 0 } ⌝ }
+{
+    Round {
+        more: true,
+        state,
+        refusal: 0,
+        count: 0,
+    }
+}
+
+// No more scans: the next one is refused by this number, or 0.
+fn last_round(refusal: u8, state: State, count: usize) -> Round
+    ensures { λ r. ⌜ r ≡ record { more = false; state = state; refusal = refusal; count = count } ⌝ }
+{
+    Round {
+        more: false,
+        state,
+        refusal,
+        count,
+    }
 }
 
 // Is no scan to be made behind this token?
@@ -59,12 +83,7 @@ fn scan_next(
     let scanned = scan(src, from.state, table, list, area);
     let state = scanned.state;
     if scanned.refusal != 0 {
-        return Round {
-            more: false,
-            state,
-            refusal: scanned.refusal,
-            count: from.count,
-        };
+        return last_round(scanned.refusal, state, from.count);
     }
     let to = from.count * Token::NUMBERS;
     put_token_at(scanned.token, tokens, to);
@@ -81,8 +100,8 @@ fn scan_next(
 pub(crate) fn scan_round(
     src: &[u8],
     firsts: &[u8; 256],
-    keyword_numbers: &[u64; 64],
-    keyword_kinds: &[u8; 64],
+    keys: &[u64; 64],
+    values: &[u8; 64],
     from: Round,
     table: &mut [usize],
     list: &mut [usize],
@@ -90,7 +109,7 @@ pub(crate) fn scan_round(
     tokens: &mut [usize],
     room: usize,
 ) -> Round
-    requires { ⌜ (fits (from .state) (now src) (now table) (now list) ≡ true) × IsTable (now firsts) × IsKeywords (now «keyword_numbers») (now «keyword_kinds»)
+    requires { ⌜ (fits (from .state) (now src) (now table) (now list) ≡ true) × IsTable (now firsts) × IsKeywords (now keys) (now values)
         × (from .count < room) × (room * tokenWidth ≤ length (now tokens)) ⌝ }
     ensures { λ r. ⌜ Comes room (now (src .entry)) (from .state) (now (table .entry)) (now (list .entry)) (now (area .entry)) (now (tokens .entry)) (from .count)
         r (now (table .exit)) (now (list .exit)) (now (area .exit)) (now (tokens .exit))
@@ -99,8 +118,8 @@ pub(crate) fn scan_round(
     let run = run_simple(
         src,
         firsts,
-        keyword_numbers,
-        keyword_kinds,
+        keys,
+        values,
         from.state,
         table,
         list,
@@ -109,13 +128,7 @@ pub(crate) fn scan_round(
         room,
     );
     if run.count == room {
-        let state = run.state;
-        return Round {
-            more: false,
-            state,
-            refusal: 0,
-            count: room,
-        };
+        return last_round(0, run.state, room);
     }
     scan_next(src, run, table, list, area, tokens, room)
 }

@@ -1,5 +1,5 @@
 // Runs of simple tokens.
-use crate::step::Reached;
+use crate::step::begun;
 use crate::step::next_simple;
 use state::State;
 ghost use mathlib.Core.Path.{_≡_};
@@ -36,12 +36,12 @@ fn safe_end(src: &[u8], first: State) -> usize
     if limit < 16 { 0 } else { limit - 16 }
 }
 
-// Simple tokens one after the other, behind so many, while there is room. What changes from token to token is kept in few numbers.
+// Simple tokens one after the other, behind so many, while there is room. The keywords are a table of keys and values. What changes from token to token is kept in few numbers.
 pub(crate) fn run_simple(
     src: &[u8],
     firsts: &[u8; 256],
-    keyword_numbers: &[u64; 64],
-    keyword_kinds: &[u8; 64],
+    keys: &[u64; 64],
+    values: &[u8; 64],
     first: State,
     table: &mut [usize],
     list: &[usize],
@@ -49,24 +49,18 @@ pub(crate) fn run_simple(
     from: usize,
     room: usize,
 ) -> Run
-    requires { ⌜ (fits first (now src) (now table) (now list) ≡ true) × IsTable (now firsts) × IsKeywords (now «keyword_numbers») (now «keyword_kinds») × (from < room)
+    requires { ⌜ (fits first (now src) (now table) (now list) ≡ true) × IsTable (now firsts) × IsKeywords (now keys) (now values) × (from < room)
         × (room * tokenWidth ≤ length (now tokens)) ⌝ }
     ensures { λ r. ⌜ Leads room (now (src .entry)) (now (list .entry)) first (now (table .entry)) (now (tokens .entry)) from (r .state) (now (table .exit)) (now (tokens .exit)) (r .count) ⌝ }
 {
     let safe = safe_end(src, first);
-    let mut at = Reached {
-        more: true,
-        place: first.place,
-        mark: first.mark,
-        lines: first.lines,
-        count: from,
-    };
+    let mut at = begun(first, from);
     while at.more {
         at = next_simple(
             src,
             firsts,
-            keyword_numbers,
-            keyword_kinds,
+            keys,
+            values,
             first,
             safe,
             at,

@@ -30,9 +30,10 @@ fn operator(
     let o = operators::scan_operator(src, at);
     let kind = o.kind;
     put_shown(kind, false, position, at, at, tokens, to);
+    let place = at + o.len;
     Next {
         found: true,
-        place: at + o.len,
+        place,
         mark: sets_mark(kind),
     }
 }
@@ -58,9 +59,10 @@ fn delimiter(
         }
     }
     put_shown(kind, false, position, at, at, tokens, to);
+    let place = at + 1;
     Next {
         found: true,
-        place: at + 1,
+        place,
         mark: sets_mark(kind),
     }
 }
@@ -90,30 +92,21 @@ fn semicolon(
 pub(crate) fn give_simple(
     src: &[u8],
     firsts: &[u8; 256],
-    keyword_numbers: &[u64; 64],
-    keyword_kinds: &[u8; 64],
+    keys: &[u64; 64],
+    values: &[u8; 64],
     at: usize,
     safe: usize,
     position: usize,
     tokens: &mut [usize],
     to: usize,
 ) -> Next
-    requires { ⌜ IsTable (now firsts) × IsKeywords (now «keyword_numbers») (now «keyword_kinds») × (at < safe) × (safe < length (now src)) × (to + tokenWidth ≤ length (now tokens)) ⌝ }
+    requires { ⌜ IsTable (now firsts) × IsKeywords (now keys) (now values) × (at < safe) × (safe < length (now src)) × (to + tokenWidth ≤ length (now tokens)) ⌝ }
     ensures { λ r. ⌜ Gives (now (src .entry)) at safe position (now (tokens .entry)) to r (now (tokens .exit)) ⌝ }
 {
     let b = src[at];
     let first = firsts[b as usize];
     if first == kinds::IDENT {
-        return word(
-            src,
-            keyword_numbers,
-            keyword_kinds,
-            at,
-            safe,
-            position,
-            tokens,
-            to,
-        );
+        return word(src, keys, values, at, safe, position, tokens, to);
     }
     if first >= kinds::LPAREN {
         return delimiter(src, firsts, at, safe, first, position, tokens, to);

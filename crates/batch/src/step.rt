@@ -25,6 +25,19 @@ pub(crate) struct Reached {
     pub(crate) count: usize,
 }
 
+// A run that starts behind so many tokens.
+pub(crate) fn begun(first: State, count: usize) -> Reached
+    ensures { λ r. ⌜ r ≡ record { more = true; place = first .place; mark = first .mark; lines = first .lines; count = count } ⌝ }
+{
+    Reached {
+        more: true,
+        place: first.place,
+        mark: first.mark,
+        lines: first.lines,
+        count,
+    }
+}
+
 // The run ends here.
 fn ended(at: Reached) -> Reached
     ensures { λ r. ⌜ r ≡ record { more = false; place = at .place; mark = at .mark; lines = at .lines; count = at .count } ⌝ }
@@ -95,8 +108,8 @@ fn record_line(
 pub(crate) fn next_simple(
     src: &[u8],
     firsts: &[u8; 256],
-    keyword_numbers: &[u64; 64],
-    keyword_kinds: &[u8; 64],
+    keys: &[u64; 64],
+    values: &[u8; 64],
     first: State,
     safe: usize,
     at: Reached,
@@ -106,9 +119,8 @@ pub(crate) fn next_simple(
     room: usize,
 ) -> Reached
     requires { ⌜ (fits (reached first at) (now src) (now table) (now list) ≡ true) × (first .place ≤ at .place) × IsSafe (now src) first safe
-        × IsTable (now firsts) × IsKeywords (now «keyword_numbers») (now «keyword_kinds») × (at .count < room) × (room * tokenWidth ≤ length (now tokens)) ⌝ }
-    ensures { λ r. ⌜ Leads room (now (src .entry)) (now (list .entry)) (reached first at) (now (table .entry)) (now (tokens .entry)) (at .count)
-        (reached first r) (now (table .exit)) (now (tokens .exit)) (r .count)
+        × IsTable (now firsts) × IsKeywords (now keys) (now values) × (at .count < room) × (room * tokenWidth ≤ length (now tokens)) ⌝ }
+    ensures { λ r. ⌜ Leads room (now (src .entry)) (now (list .entry)) (reached first at) (now (table .entry)) (now (tokens .entry)) (at .count) (reached first r) (now (table .exit)) (now (tokens .exit)) (r .count)
         × (first .place ≤ r .place) × (r .more ≡ true → (at .count < r .count) × (r .count < room)) ⌝ }
 {
     let blanks = ready_blanks(src, safe, at, table);
@@ -118,17 +130,7 @@ pub(crate) fn next_simple(
     let start = blanks.end;
     let position = first.base + first.offset + (start - first.place);
     let to = at.count * Token::NUMBERS;
-    let next = give_simple(
-        src,
-        firsts,
-        keyword_numbers,
-        keyword_kinds,
-        start,
-        safe,
-        position,
-        tokens,
-        to,
-    );
+    let next = give_simple(src, firsts, keys, values, start, safe, position, tokens, to);
     if !next.found {
         return ended(at);
     }

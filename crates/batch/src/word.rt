@@ -58,15 +58,15 @@ fn long_word(
 // Gives the word at a place; one of fewer than eight bytes is searched among the keywords as a number.
 pub(crate) fn word(
     src: &[u8],
-    keyword_numbers: &[u64; 64],
-    keyword_kinds: &[u8; 64],
+    keys: &[u64; 64],
+    values: &[u8; 64],
     at: usize,
     safe: usize,
     position: usize,
     tokens: &mut [usize],
     to: usize,
 ) -> Next
-    requires { ⌜ IsKeywords (now «keyword_numbers») (now «keyword_kinds») × (at < safe) × (safe ≤ length (now src)) × (isLetter (getD (now src) at 0) ≡ true)
+    requires { ⌜ IsKeywords (now keys) (now values) × (at < safe) × (safe ≤ length (now src)) × (isLetter (getD (now src) at 0) ≡ true)
         × (to + tokenWidth ≤ length (now tokens)) ⌝ }
     ensures { λ r. ⌜ Gives (now (src .entry)) at safe position (now (tokens .entry)) to r (now (tokens .exit)) ⌝ }
 {
@@ -75,6 +75,6 @@ pub(crate) fn word(
     if n == 8 {
         return long_word(src, at, safe, position, tokens, to);
     }
-    let kind = keywords::kind_in(keyword_numbers, keyword_kinds, run.number, n);
+    let kind = keywords::kind_in(keys, values, run.number, n);
     give_word(kind, at, at + n, position, tokens, to)
 }

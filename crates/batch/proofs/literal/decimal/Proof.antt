@@ -60,7 +60,8 @@ none-requires-4 c κs = search needs
 
 returns-4 : tie.Need-returns-4
 returns-4 c =
-    let a = c .before .before .before .before .before .before .before .before .before .before .before .before .args in
+    let j = c .before .before .before .before .before .before in
+    let a = j .before .before .before .before .before .before .args in
     gives-none (a .src .now) (a .at) (a .safe) (a .position) (a .tokens .now) (a .to) (c .none4 .ensures)
 
 put-shown-requires : tie.Need-put-shown-requires

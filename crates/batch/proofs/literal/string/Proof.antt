@@ -35,8 +35,8 @@ returns-2 c =
 put-string-requires : tie.Need-put-string-requires
 put-string-requires c κs = search needs
 
-add-t8 : tie.Need-add-t8
-add-t8 c = search needs
+add-place : tie.Need-add-place
+add-place c = search needs
 
 same-length : tie.Need-same-length
 same-length c = search needs
@@ -65,6 +65,6 @@ string-spec =
     none-requires-2
     returns-2
     put-string-requires
-    add-t8
+    add-place
     same-length
     returns-3)

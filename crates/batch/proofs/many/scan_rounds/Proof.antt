@@ -13,7 +13,7 @@ use Rattle.batch.proofs.many.scan_rounds.Statement.{statement}
 use Rattle.batch.proofs.many.scan_rounds.Tie as tie
 
 abbrev Inv-loop : tie.InvT-loop
-Inv-loop src first table₀ list₀ area₀ tokens₀ room firsts numbers kinds round₀ table list area tokens round =
+Inv-loop src first table₀ list₀ area₀ tokens₀ room firsts keys values round₀ table list area tokens round =
     (length table ≡ length table₀)
     × (length list ≡ length list₀)
     × (length area ≡ length area₀)
@@ -21,7 +21,7 @@ Inv-loop src first table₀ list₀ area₀ tokens₀ room firsts numbers kinds 
     × Comes room src first table₀ list₀ area₀ tokens₀ 0 round table list area tokens
 
 abbrev μ-loop : tie.MeasureT-loop
-μ-loop src first table₀ list₀ area₀ tokens₀ room firsts numbers kinds round₀ table list area tokens round = cond (round .more) 1 0 + (room - round .count)
+μ-loop src first table₀ list₀ area₀ tokens₀ room firsts keys values round₀ table list area tokens round = cond (round .more) 1 0 + (room - round .count)
 
 first-kinds-requires : tie.Need-first-kinds-requires Inv-loop μ-loop
 first-kinds-requires c κs = tt
@@ -35,10 +35,14 @@ keyword-kinds-requires c κs = tt
 abbrev start : tie.After-keyword-kinds Inv-loop μ-loop → tie.Start Inv-loop μ-loop
 start c = c .before .before .before .before .before .before .before .before
 
+first-round-requires : tie.Need-first-round-requires Inv-loop μ-loop
+first-round-requires c κs = tt
+
 loop-holds : tie.Need-loop-holds Inv-loop μ-loop
 loop-holds c =
-    let s = start c in
+    let s = start (c .before) in
     let enough = s .pre .1 in
+    rw (c .first-round .ensures)
     (refl, refl, refl, refl, comes-start (tokenRoom (s .args .tokens .now)) (s .args .src .now) (s .pre .0) (omega arith))
 
 -- ---- one round
@@ -49,7 +53,7 @@ scan-round-requires : tie.Need-scan-round-requires Inv-loop μ-loop
 scan-round-requires c κs =
     let t = tested c in
     let l = t .before .loop in
-    let made = t .before .before in
+    let made = t .before .before .before in
     let same = l .inv .3 in
     (l .inv .4 .fit, made .before .before .first-kinds .ensures, (made .before .keyword-numbers .ensures, made .keyword-kinds .ensures), l .inv .4 .room-left (t .loop-test .taken), omega arith)
 
@@ -86,10 +90,13 @@ same-length-4 c = search needs
 returns : tie.Need-returns Inv-loop μ-loop
 returns c =
     let l = c .before .before .before in
-    let s = start (l .before .before) in
+    let s = start (l .before .before .before) in
     let i = l .before .loop .inv .4 in
     let zero = c .before .if1 .taken in
     rw (c .refused .ensures) (none-given _ _ _ _ _ _ (s .pre .1) _ _ _ _ _ _ (comes-end _ _ i (l .loop-test .left)) zero (comes-none _ _ i (l .loop-test .left) zero))
+
+gave-requires : tie.Need-gave-requires Inv-loop μ-loop
+gave-requires c κs = tt
 
 same-length-5 : tie.Need-same-length-5 Inv-loop μ-loop
 same-length-5 c = search needs
@@ -106,8 +113,8 @@ same-length-8 c = search needs
 returns-2 : tie.Need-returns-2 Inv-loop μ-loop
 returns-2 c =
     let l = c .before .before .before in
-    let s = start (l .before .before) in
-    some-given _ _ _ _ _ _ (s .pre .1) _ _ _ _ _ _ (comes-end _ _ (l .before .loop .inv .4) (l .loop-test .left)) (c .before .if1 .left)
+    let s = start (l .before .before .before) in
+    rw (c .gave .ensures) (some-given _ _ _ _ _ _ (s .pre .1) _ _ _ _ _ _ (comes-end _ _ (l .before .loop .inv .4) (l .loop-test .left)) (c .before .if1 .left))
 
 pub scan-rounds-spec : {M : Type 1} → statement M
 scan-rounds-spec =
@@ -118,6 +125,7 @@ scan-rounds-spec =
     first-kinds-requires
     keyword-numbers-requires
     keyword-kinds-requires
+    first-round-requires
     loop-holds
     scan-round-requires
     loop-less
@@ -128,6 +136,7 @@ scan-rounds-spec =
     same-length-3
     same-length-4
     returns
+    gave-requires
     same-length-5
     same-length-6
     same-length-7

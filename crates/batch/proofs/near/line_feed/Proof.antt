@@ -39,8 +39,8 @@ tabs c =
 add-end : tie.Need-add-end
 add-end c = omega (arith, tabs c .few)
 
-shared-slice-read-t14 : tie.Need-shared-slice-read-t14
-shared-slice-read-t14 c = omega (arith, tabs (c .before) .few)
+shared-slice-read-next : tie.Need-shared-slice-read-next
+shared-slice-read-next c = omega (arith, tabs (c .before) .few)
 
 returns-2 : tie.Need-returns-2
 returns-2 c e =
@@ -51,4 +51,4 @@ returns-2 c e =
 pub line-feed-spec : {M : Type 1} → statement M
 line-feed-spec =
     tie.close
-    (tie.spec returns add-line eight-requires cast-tabs add-end shared-slice-read-t14 returns-2)
+    (tie.spec returns add-line eight-requires cast-tabs add-end shared-slice-read-next returns-2)

@@ -30,6 +30,9 @@ after c =
 abbrev scanned : tie.After-struct-known → tie.After-scan
 scanned c = c .before .before .before .before .before .before .before .before
 
+last-round-requires : tie.Need-last-round-requires
+last-round-requires c κs = tt
+
 same-length : tie.Need-same-length
 same-length c = search needs
 
@@ -41,9 +44,9 @@ same-length-3 c = search needs
 
 returns : tie.Need-returns
 returns c =
-    let s = scanned (c .before) in
+    let s = scanned (c .before .before) in
     let p = start s .pre in
-    (comes-refused (start s .args .room) (start s .args .src .now) (p .0) (p .1) {a = after s} (s .scan .ensures) (c .if1 .taken), λ e. absurd (false≢true e))
+    rw (c .last-round .ensures) (comes-refused (start s .args .room) (start s .args .src .now) (p .0) (p .1) {a = after s} (s .scan .ensures) (c .before .if1 .taken), λ e. absurd (false≢true e))
 
 -- the numbers of one more token fit
 room-there : (c : tie.Else1) → let a = start (scanned (c .before)) .args in a .from .count * tokenWidth + tokenWidth ≤ length (a .tokens .now)
@@ -98,6 +101,7 @@ scan-next-spec =
     tie.close
     (tie.spec
     scan-requires
+    last-round-requires
     same-length
     same-length-2
     same-length-3

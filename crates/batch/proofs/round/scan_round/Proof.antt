@@ -9,6 +9,9 @@ use Rattle.batch.proofs.round.scan_round.Tie as tie
 run-simple-requires : tie.Need-run-simple-requires
 run-simple-requires c κs = search needs
 
+last-round-requires : tie.Need-last-round-requires
+last-round-requires c κs = tt
+
 same-length : tie.Need-same-length
 same-length c = search needs
 
@@ -29,7 +32,7 @@ returns : tie.Need-returns
 returns c =
     let r = ran (c .before .before) in
     let s = start r in
-    (comes-full (s .args .room) (s .args .src .now) (r .run-simple .ensures) (s .pre .3) (c .before .if1 .taken), λ e. absurd (false≢true e))
+    rw (c .last-round .ensures) (comes-full (s .args .room) (s .args .src .now) (r .run-simple .ensures) (s .pre .3) (c .before .if1 .taken), λ e. absurd (false≢true e))
 
 scan-next-requires : tie.Need-scan-next-requires
 scan-next-requires c κs = search needs
@@ -58,6 +61,7 @@ scan-round-spec =
     tie.close
     (tie.spec
     run-simple-requires
+    last-round-requires
     same-length
     same-length-2
     same-length-3

@@ -13,7 +13,7 @@ use Rattle.batch.proofs.run.run_simple.Statement.{statement}
 use Rattle.batch.proofs.run.run_simple.Tie as tie
 
 abbrev Inv-loop : tie.InvT-loop
-Inv-loop src firsts keyword-numbers keyword-kinds first table₀ list tokens₀ from room safe at₀ table tokens at =
+Inv-loop src firsts keys values first table₀ list tokens₀ from room safe at₀ table tokens at =
     (length table ≡ length table₀)
     × (length tokens ≡ length tokens₀)
     × (first .place ≤ at .place)
@@ -21,7 +21,7 @@ Inv-loop src firsts keyword-numbers keyword-kinds first table₀ list tokens₀ 
     × Leads room src list first table₀ tokens₀ from (reached first at) table tokens (at .count)
 
 abbrev μ-loop : tie.MeasureT-loop
-μ-loop src firsts keyword-numbers keyword-kinds first table₀ list tokens₀ from room safe at₀ table tokens at = cond (at .more) 1 0 + (room - at .count)
+μ-loop src firsts keys values first table₀ list tokens₀ from room safe at₀ table tokens at = cond (at .more) 1 0 + (room - at .count)
 
 safe-end-requires : tie.Need-safe-end-requires Inv-loop μ-loop
 safe-end-requires c κs =
@@ -33,17 +33,21 @@ safe-end-requires c κs =
 abbrev start : tie.After-safe-end Inv-loop μ-loop → tie.Start Inv-loop μ-loop
 start c = c .before .before .before .before .before
 
+begun-requires : tie.Need-begun-requires Inv-loop μ-loop
+begun-requires c κs = tt
+
 loop-holds : tie.Need-loop-holds Inv-loop μ-loop
 loop-holds c =
-    let s = start c in
+    let s = start (c .before) in
     let a = s .args in
+    rw (c .begun .ensures)
     (refl, refl, omega arith, λ _. s .pre .3, subst (λ t. Leads (a .room) (a .src .now) (a .list .now) (a .first) (a .table .now) (a .tokens .now) (a .from) t (a .table .now) (a .tokens .now) (a .from)) (sym (state-start (a .first))) (leads-here (a .room) (a .src .now) (a .list .now) (a .first) (a .table .now) (a .tokens .now) (a .from) (s .pre .0) (omega (arith, s .pre .3))))
 
 next-simple-requires : tie.Need-next-simple-requires Inv-loop μ-loop
 next-simple-requires c κs =
     let t = c .before .before in
     let l = t .before .loop in
-    let e = t .before .before in
+    let e = t .before .before .before in
     let p = start e .pre in
     (l .inv .4 .fit, l .inv .2, e .safe-end .ensures, p .1, p .2, l .inv .3 (t .loop-test .taken), omega (arith, l .inv .1, p .4))
 
@@ -69,7 +73,7 @@ loop-again c =
 state-at-requires : tie.Need-state-at-requires Inv-loop μ-loop
 state-at-requires c κs =
     let l = c .before .loop in
-    let a = start (c .before .before) .args in
+    let a = start (c .before .before .before) .args in
     let s = reached (a .first) (l .at) in
     (l .inv .2, omega (arith, offset-within s (a .src .now) (l .table) (a .list .now) (l .inv .4 .fit), size-small s (a .src .now) (l .table) (a .list .now) (l .inv .4 .fit)))
 
@@ -89,6 +93,7 @@ run-simple-spec =
     Inv-loop
     μ-loop
     safe-end-requires
+    begun-requires
     loop-holds
     next-simple-requires
     loop-less

@@ -41,8 +41,8 @@ returns c =
 put-shown-requires : tie.Need-put-shown-requires
 put-shown-requires c κs = search needs
 
-add-t21 : tie.Need-add-t21
-add-t21 c = search needs
+add-place : tie.Need-add-place
+add-place c = search needs
 
 -- the byte there
 byte-small : (c : tie.After-slice-known) → getD (c .before .before .args .src .now) (c .before .before .args .at) 0 < 256
@@ -93,7 +93,7 @@ delimiter-spec =
     none-requires
     returns
     put-shown-requires
-    add-t21
+    add-place
     sets-mark-requires
     same-length
     returns-2)

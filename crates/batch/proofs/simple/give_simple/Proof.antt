@@ -102,7 +102,8 @@ none-requires c κs = search needs
 
 returns-7 : tie.Need-returns-7
 returns-7 c =
-    let a = c .before .before .before .before .before .before .before .before .before .before .before .args in
+    let f = c .before .before .before .before .before .before .before in
+    let a = f .before .before .before .before .args in
     gives-none (a .src .now) (a .at) (a .safe) (a .position) (a .tokens .now) (a .to) (c .none .ensures)
 
 pub give-simple-spec : {M : Type 1} → statement M

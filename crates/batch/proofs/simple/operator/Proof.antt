@@ -30,8 +30,8 @@ starts x =
     let s = x .before .before .before in
     operator-first _ (omega (arith, x .before .before .shared-slice-known .given (s .args .at))) (s .pre .2)
 
-add-t12 : tie.Need-add-t12
-add-t12 c =
+add-place : tie.Need-add-place
+add-place c =
     let x = c .before .before .before .before .before in
     let s = x .before .before .before in
     omega (arith, operator-within (s .args .src .now) (s .args .at) (x .scan-operator .result) (x .scan-operator .ensures) (starts x))
@@ -66,7 +66,7 @@ operator-spec =
     (tie.spec
     scan-operator-requires
     put-shown-requires
-    add-t12
+    add-place
     sets-mark-requires
     same-length
     returns)

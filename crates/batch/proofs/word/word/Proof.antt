@@ -60,7 +60,7 @@ kind-is c =
     let s = start e in
     let a = s .args in
     let run = e .before .near-run in
-    kind-told (a .keyword-numbers .now) (a .keyword-kinds .now) (drop (a .at) (a .src .now)) (run .result .number) (run .result .len) (c .kind-in .result) (s .pre .0)
+    kind-told (a .keys .now) (a .values .now) (drop (a .at) (a .src .now)) (run .result .number) (run .result .len) (c .kind-in .result) (s .pre .0)
     (bytes-drop (a .at) (a .src .now) (λ i. e .before .before .before .shared-slice-known .given i .fits)) (omega (arith, short e))
     (omega (arith, whole e, run-room (a .src .now) (a .at), length-drop (a .at) (a .src .now)))
     (ap (λ (r : Near). r .number) (run .ensures) ∙ ap (λ m. numberOf (take m (drop (a .at) (a .src .now)))) (sym (ap (λ (r : Near). r .len) (run .ensures))))
