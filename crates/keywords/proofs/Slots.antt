@@ -14,7 +14,7 @@ use Rattle.swar.specs.Lanes.{numberOf}
 use Rattle.swar.proofs.Numbers.{Bytes}
 use Rattle.kinds.specs.Kinds.{IDENT}
 use Rattle.kinds.specs.Table.{keywords, identToken}
-use Rattle.keywords.specs.Search.{slotOf, rowIn, slotsFrom, bySlot, numbersBySlot, kindsBySlot, kindIn}
+use Rattle.keywords.specs.Search.{slotOf, rowIn, slotsFrom, bySlot, kindIn}
 use Rattle.keywords.proofs.Search.{word-searched}
 
 module _ (f : ℕ → ℕ) where
@@ -59,13 +59,15 @@ module _ (f : ℕ → ℕ) where
   full l n h (_, long, low) =
       ext-getD 0 l (bySlot f) (long ∙ sym by-slot-length) (λ i k. low i (omega arith) ∙ sym (entry i (omega arith)))
 
-plus-mod : (n a b : ℕ) → (n % 64 + a + b) % 64 ≡ (n + a + b) % 64
-plus-mod n a b = omega arith
+plus-mod : (n m : ℕ) → (n % 64 + m) % 64 ≡ (n + m) % 64
+plus-mod n m = omega arith
 
--- the slot as the code has it
-pub slot-reduced : (number n : ℕ) → (n % 64 + number % 256 * 8 + number / 256 % 256 * 59) % 64 ≡ slotOf number n
+-- the slot as kind_in has it
+pub slot-reduced : (number n : ℕ) → (n % 64 + (number % 256 * 8 + number / 256 % 256 * 59)) % 64 ≡ slotOf number n
 unfolding slotOf
-slot-reduced number n = plus-mod n (number % 256 * 8) (number / 256 % 256 * 59)
+slot-reduced number n =
+    let e : n + (number % 256 * 8 + number / 256 % 256 * 59) ≡ n + number % 256 * 8 + number / 256 % 256 * 59 = omega arith in
+    plus-mod n (number % 256 * 8 + number / 256 % 256 * 59) ∙ ap (λ x. x % 64) e
 
 module _ (numbers kinds : List ℕ) (number n slot : ℕ) (e : slot ≡ slotOf number n) where
   pub kind-hit : getD numbers slot 0 ≡ number → getD kinds slot 0 ≡ kindIn numbers kinds number n
@@ -78,13 +80,14 @@ module _ (numbers kinds : List ℕ) (number n slot : ℕ) (e : slot ≡ slotOf n
       let h : eqb (getD numbers (slotOf number n) 0) number ≡ false = rw e at (ne-eqb _ _ f) in
       rw h
 
-pub slot-small : (number n : ℕ) → slotOf number n < 64
+slot-small : (number n : ℕ) → slotOf number n < 64
 unfolding slotOf
 slot-small number n = omega arith
 
 -- the tables of keywords give a word of at most eight bytes its kind
 pub kind-found : (s : List ℕ) (n : ℕ) → Bytes s → n ≤ 8 → n ≤ length s
-    → kindIn numbersBySlot kindsBySlot (numberOf (take n s)) n ≡ identToken (take n s)
+    → kindIn (bySlot (λ slot. rowIn slot keywords .1)) (bySlot (λ slot. rowIn slot keywords .0)) (numberOf (take n s)) n
+    ≡ identToken (take n s)
 kind-found s n bytes short inside =
     let slot = slotOf (numberOf (take n s)) n in
     let h : slot < 64 = slot-small (numberOf (take n s)) n in

@@ -34,13 +34,6 @@ slotsFrom f slot (suc n) = f slot ∷ slotsFrom f (suc slot) n
 unfoldable pub bySlot : (ℕ → ℕ) → List ℕ
 bySlot f = slotsFrom f 0 64
 
--- the keywords of at most eight bytes, each in its slot: their numbers and their kinds
-abbrev pub numbersBySlot : List ℕ
-numbersBySlot = bySlot (λ slot. rowIn slot Table.keywords .1)
-
-abbrev pub kindsBySlot : List ℕ
-kindsBySlot = bySlot (λ slot. rowIn slot Table.keywords .0)
-
 -- the kind that tables by slots give to a number of n bytes
 abbrev pub kindIn : List ℕ → List ℕ → ℕ → ℕ → ℕ
 kindIn numbers kinds number n = cond (eqb (getD numbers (slotOf number n) 0) number) (getD kinds (slotOf number n) 0) IDENT

@@ -6,7 +6,7 @@ ghost use lib.ListN.{length, take};
 ghost use Rattle.basics.specs.Same.{same};
 ghost use Rattle.swar.specs.Lanes.{numberOf};
 ghost use Rattle.kinds.specs.Table.{identToken, keywords};
-ghost use Rattle.keywords.specs.Search.{slotOf, rowIn, numbersBySlot, kindsBySlot, kindIn};
+ghost use Rattle.keywords.specs.Search.{slotOf, rowIn, bySlot, kindIn};
 
 // Whether two byte strings are the same.
 fn is_same(a: &[u8], b: &[u8]) -> bool
@@ -70,9 +70,10 @@ struct Row(u8, u64);
 
 // The slot of a word by its length and its first two bytes: no two keywords of at most eight bytes share one.
 fn slot_of(number: u64, n: usize) -> u64
+    requires { ⌜ n ≤ 8 ⌝ }
     ensures { λ r. ⌜ r ≡ slotOf number n ⌝ }
 {
-    (n as u64 % 64 + number % 256 * 8 + number / 256 % 256 * 59) % 64
+    (n as u64 + number % 256 * 8 + number / 256 % 256 * 59) % 64
 }
 
 // The keyword in a slot. (A match becomes a constant table; an array would be built at each call.)
@@ -128,44 +129,36 @@ pub fn ident_token(text: &[u8], len: usize) -> u8
     if row.1 == number { row.0 } else { IDENT }
 }
 
-// The keywords of at most eight bytes, each in its slot: as numbers, with 0 where there is none, and their kinds, with IDENT there.
-struct BySlot {
-    numbers: [u64; 64],
-    kinds: [u8; 64],
-}
-
-fn by_slot() -> BySlot
-    ensures { λ r. ⌜ (r .numbers ≡ numbersBySlot) × (r .kinds ≡ kindsBySlot) ⌝ }
+// The keywords of at most eight bytes as numbers, each in its slot; 0 where there is none. A loop over many words has these tables made
+// once, and does without a call.
+pub fn keyword_numbers() -> [u64; 64]
+    ensures { λ r. ⌜ r ≡ bySlot (λ slot. rowIn slot keywords .1) ⌝ }
 {
     let mut numbers = [0u64; 64];
-    let mut kinds = [IDENT; 64];
     for slot in 0..64usize {
         let row = row_in(slot as u64);
         numbers[slot] = row.1;
+    }
+    numbers
+}
+
+// Their kinds, each in its slot; IDENT where there is none.
+pub fn keyword_kinds() -> [u8; 64]
+    ensures { λ r. ⌜ r ≡ bySlot (λ slot. rowIn slot keywords .0) ⌝ }
+{
+    let mut kinds = [IDENT; 64];
+    for slot in 0..64usize {
+        let row = row_in(slot as u64);
         kinds[slot] = row.0;
     }
-    BySlot { numbers, kinds }
-}
-
-// The numbers of these keywords. A loop over many words has both tables made once, and does without a call.
-pub fn keyword_numbers() -> [u64; 64]
-    ensures { λ r. ⌜ r ≡ numbersBySlot ⌝ }
-{
-    by_slot().numbers
-}
-
-// Their kinds.
-pub fn keyword_kinds() -> [u8; 64]
-    ensures { λ r. ⌜ r ≡ kindsBySlot ⌝ }
-{
-    by_slot().kinds
+    kinds
 }
 
 // The kind of a word of n bytes by two such tables and the number that the word is.
 pub fn kind_in(numbers: &[u64; 64], kinds: &[u8; 64], number: u64, n: usize) -> u8
     ensures { λ r. ⌜ r ≡ kindIn (now (numbers .entry)) (now (kinds .entry)) number n ⌝ }
 {
-    let slot = slot_of(number, n) as usize;
+    let slot = (n % 64 + (number % 256 * 8 + number / 256 % 256 * 59) as usize) % 64;
     let kind = kinds[slot];
     if numbers[slot] == number { kind } else { IDENT }
 }

@@ -103,11 +103,18 @@ fn lex_other(src: &[u8], at: usize, second: u8, mark: bool) -> Lexed
     lex_operator(src, at, mark)
 }
 
-// The token at a place by the first two bytes there.
-fn lex_by(src: &[u8], at: usize, first: u8, second: u8, mark: bool) -> Lexed
-    requires { ⌜ (at < length (now src)) × (getD (now src) at 0 ≡ first) × (getD (now src) (at + 1) 0 ≡ second) ⌝ }
+// The token at a place after the blanks.
+pub fn lex_token(src: &[u8], at: usize, mark: bool) -> Lexed
     ensures { λ r. ⌜ said (now (src .entry)) at r ≡ placed (now (src .entry)) at (lexToken mark (chars (drop at (now (src .entry))))) ⌝ }
 {
+    if src.len() <= at {
+        if mark {
+            return inserted_semicolon(at);
+        }
+        return bare(kinds::EOF, at, at, false);
+    }
+    let first = src[at];
+    let second = utf8::byte(src, at + 1);
     if words::is_letter(first) {
         return lex_word(src, at);
     }
@@ -121,19 +128,4 @@ fn lex_by(src: &[u8], at: usize, first: u8, second: u8, mark: bool) -> Lexed
         b'`' => lex_raw(src, at),
         _ => lex_other(src, at, second, mark),
     }
-}
-
-// The token at a place after the blanks.
-pub fn lex_token(src: &[u8], at: usize, mark: bool) -> Lexed
-    ensures { λ r. ⌜ said (now (src .entry)) at r ≡ placed (now (src .entry)) at (lexToken mark (chars (drop at (now (src .entry))))) ⌝ }
-{
-    if src.len() <= at {
-        if mark {
-            return inserted_semicolon(at);
-        }
-        return bare(kinds::EOF, at, at, false);
-    }
-    let first = src[at];
-    let second = utf8::byte(src, at + 1);
-    lex_by(src, at, first, second, mark)
 }

@@ -1,6 +1,7 @@
--- The definition, with the length reduced before the sum.
+-- The definition, word for word.
+use mathlib.Core.Path.{refl}
 use borrow.Author.Needs.{needs}
-use Rattle.keywords.proofs.Slots.{slot-reduced}
+use Rattle.keywords.specs.Search.{slotOf}
 use Rattle.keywords.proofs.slot_of.Statement.{statement}
 use Rattle.keywords.proofs.slot_of.Tie as tie
 
@@ -17,7 +18,8 @@ add-result-2 : tie.Need-add-result-2
 add-result-2 c = search needs
 
 returns : tie.Need-returns
-returns c = slot-reduced _ _
+unfolding slotOf
+returns c = refl
 
 pub slot-of-spec : {M : Type 1} → statement M
 slot-of-spec = tie.close (tie.spec mul-result add-result mul-result-2 add-result-2 returns)
