@@ -12,7 +12,7 @@ use mathlib.Core.Logic.{⊎-elim}
 use borrow.Author.Tests.{ne-eqb, eq-eqb, eqb-true, eqb-false}
 use Rattle.basics.proofs.Choice.{either}
 use Rattle.utf8.specs.Chars.{chars}
-use Rattle.swar.specs.Lanes.{numberOf}
+use Rattle.swar.specs.Number.{numberOf}
 use Rattle.swar.proofs.Numbers.{Bytes}
 use Rattle.kinds.specs.Kinds.{EOF, IDENT, STRING}
 use Rattle.kinds.specs.Table.{identToken}

@@ -1,4 +1,4 @@
--- Blanks between most tokens, as the code of many scans reads them. No public contract cites this.
+-- Steps of the code. No public contract cites this file. Blanks between most tokens, as the code of many scans reads them.
 use Prim.Native.Nat.{ℕ, _+_}
 use Prim.Native.Char.{code}
 use mathlib.Core.Path.{_≡_}

@@ -1,4 +1,4 @@
--- Runs of simple tokens and rounds of scans, as the code of many scans makes them. No public contract cites this.
+-- Steps of the code. No public contract cites this file. Runs of simple tokens and rounds of scans.
 use Prim.Native.Nat.{ℕ, _+_, _-_, _≤_, _<_}
 use mathlib.Core.Path.{_≡_}
 use mathlib.Core.Bool.{Bool, true, false, cond}

@@ -8,7 +8,8 @@ use native.Mathlib.Omega.{arith}
 use lib.Bits.{bitXor}
 use lib.Count.{trailingZeros, trailing-le}
 use lib.ListN.{take, drop, getD}
-use Rattle.swar.specs.Lanes.{numberOf, lanes}
+use Rattle.swar.specs.Number.{numberOf}
+use Rattle.swar.specs.Lanes.{lanes}
 use Rattle.swar.proofs.Numbers.{Bytes}
 use Rattle.swar.proofs.Each.{small, lanes-self, xor-all}
 use Rattle.swar.proofs.Trailing.{zeros-run}

@@ -13,7 +13,7 @@ use lib.Pow.{areBytes}
 use lib.Seq.{length-take-le, take-all, take-length}
 use Rattle.basics.proofs.Choice.{cond-ind, either, and-split, and-left, and-right}
 use Rattle.basics.proofs.Every.{every-entry}
-use Rattle.swar.specs.Lanes.{numberOf}
+use Rattle.swar.specs.Number.{numberOf}
 use Rattle.swar.proofs.Numbers.{Bytes, bytes-of, bytes-take, number-injective}
 use Rattle.kinds.specs.Kinds.{IDENT}
 use Rattle.kinds.specs.Table.{Row, keywords, identToken}

@@ -4,7 +4,7 @@ use mathlib.Core.Bool.{cond, _&&_}
 use mathlib.Core.List.{List, [], _∷_}
 use lib.Dec.{eqb, leb}
 use lib.ListN.{length, getD}
-use Rattle.swar.specs.Lanes.{numberOf}
+use Rattle.swar.specs.Number.{numberOf}
 use Rattle.kinds.specs.Kinds.{IDENT}
 use Rattle.kinds.specs.Table as Table
 use Rattle.keywords.specs.declared.Row.{Row}

@@ -4,7 +4,7 @@ ghost use mathlib.Core.Path.{_≡_};
 ghost use Prim.Native.Nat.{_+_, _-_, _*_, _^_, _≤_, _<_, min};
 ghost use lib.ListN.{length, take};
 ghost use Rattle.basics.specs.Same.{same};
-ghost use Rattle.swar.specs.Lanes.{numberOf};
+ghost use Rattle.swar.specs.Number.{numberOf};
 ghost use Rattle.kinds.specs.Table.{identToken, keywords};
 ghost use Rattle.keywords.specs.Search.{slotOf, rowIn, bySlot, kindIn};
 

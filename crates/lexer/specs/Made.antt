@@ -1,4 +1,4 @@
--- The answers that the code makes, step by step: no public contract cites them.
+-- Steps of the code. No public contract cites this file. The answers that the code makes.
 use Prim.Native.Nat.{ℕ, _+_, _-_, _<_}
 pub use Prim.Native.Char.{code}
 use mathlib.Core.Path.{_≡_}

@@ -1,4 +1,4 @@
--- The line starts of a whole text, and of two texts that are joined.
+-- Words of laws. No public contract cites this file. The line starts of a whole text, and of two texts that are joined.
 use Prim.Native.Nat.{ℕ, _+_}
 use mathlib.Core.List.{List, [], _∷_, _++_, map}
 use lib.ListN.{length}

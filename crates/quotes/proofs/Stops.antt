@@ -13,7 +13,8 @@ use lib.Dec.{eqb, ltb}
 use lib.ListN.{length, take, drop, getD}
 use borrow.Author.Tests.{lt-ltb, le-ltb}
 use Rattle.basics.proofs.Choice.{either}
-use Rattle.swar.specs.Lanes.{numberOf, lanes}
+use Rattle.swar.specs.Number.{numberOf}
+use Rattle.swar.specs.Lanes.{lanes}
 use Rattle.swar.proofs.Numbers.{Bytes}
 use Rattle.swar.proofs.Each.{Small, lanes-same, lanes-and}
 use Rattle.swar.proofs.Marks.{apart, aparts, marks, apart-small, aparts-each, Clears, apart-clears, both-clear, marks-found}

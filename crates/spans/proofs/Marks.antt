@@ -13,7 +13,8 @@ use lib.ListN.{length, take, drop, getD}
 use borrow.Author.Tests.{leb-true, leb-false}
 use Rattle.basics.proofs.Choice.{cond-ind}
 use Rattle.basics.proofs.Lists.{drop-next}
-use Rattle.swar.specs.Lanes.{numberOf, lanes}
+use Rattle.swar.specs.Number.{numberOf}
+use Rattle.swar.specs.Lanes.{lanes}
 use Rattle.swar.proofs.Numbers.{Bytes}
 use Rattle.swar.proofs.Each.{Small, lanes-and, plus-all}
 use Rattle.swar.proofs.Trailing.{zeros-run}

@@ -12,7 +12,7 @@ use lib.ListN.{length, take, drop, getD, length-drop, drop-of-length-le}
 use lib.Pow.{pow-add, pow-mono, pow-pos, areBytes}
 use lib.Seq.{take-nil, take-take, getD-drop, drop-drop}
 use Rattle.basics.proofs.Choice.{and-left, and-right}
-use Rattle.swar.specs.Lanes.{numberOf}
+use Rattle.swar.specs.Number.{numberOf}
 
 -- each element is a byte
 abbrev pub Bytes : List ℕ → Type 0

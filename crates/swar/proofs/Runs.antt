@@ -8,7 +8,8 @@ use native.Mathlib.Omega.{arith}
 use lib.Count.{trailingZeros}
 use lib.ListN.{take, drop, getD}
 use Rattle.basics.proofs.Choice.{cond-ind}
-use Rattle.swar.specs.Lanes.{numberOf, lanes}
+use Rattle.swar.specs.Number.{numberOf}
+use Rattle.swar.specs.Lanes.{lanes}
 use Rattle.swar.proofs.Numbers.{Bytes}
 use Rattle.swar.proofs.Trailing.{zeros-run}
 

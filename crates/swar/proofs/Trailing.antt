@@ -6,7 +6,8 @@ use native.Mathlib.Nat.{add-zero, suc-add, pow-suc}
 use native.Mathlib.Omega.{arith}
 use lib.Count.{trailingZeros, under}
 use lib.ListN.{take, drop, getD}
-use Rattle.swar.specs.Lanes.{numberOf, lanes}
+use Rattle.swar.specs.Number.{numberOf}
+use Rattle.swar.specs.Lanes.{lanes}
 use Rattle.swar.proofs.Numbers.{Bytes, number-next}
 use Rattle.swar.proofs.Each.{Small, lanes-next}
 

@@ -3,7 +3,7 @@ ghost use mathlib.Core.Path.{_≡_};
 ghost use Prim.Native.Nat.{_+_, _*_, _≤_};
 ghost use lib.Dec.{leb};
 ghost use lib.ListN.{length, take, drop};
-ghost use Rattle.swar.specs.Lanes.{numberOf};
+ghost use Rattle.swar.specs.Number.{numberOf};
 
 // The number that four bytes are.
 fn number_of(a: u8, b: u8, c: u8, d: u8) -> u64

@@ -14,7 +14,8 @@ use lib.ListN.{length, take, drop, getD, length-drop}
 use Rattle.basics.proofs.Choice.{either}
 use Rattle.basics.proofs.Every.{every-below}
 use Rattle.basics.proofs.Lists.{reach}
-use Rattle.swar.specs.Lanes.{numberOf, lanes}
+use Rattle.swar.specs.Number.{numberOf}
+use Rattle.swar.specs.Lanes.{lanes}
 use Rattle.swar.proofs.Numbers.{Bytes}
 use Rattle.swar.proofs.Each.{small, lanes-same, lanes-fit, lanes-and, lanes-or, plus-all, from-all, le-all, or-all}
 use Rattle.swar.proofs.Marks.{low, apart, mark, lows, aparts, marks, low-small, lows-each, aparts-each, marks-each}

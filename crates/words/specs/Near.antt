@@ -2,7 +2,7 @@
 use Prim.Native.Nat.{ℕ, min}
 use mathlib.Core.List.{List}
 use lib.ListN.{take, drop}
-use Rattle.swar.specs.Lanes.{numberOf}
+use Rattle.swar.specs.Number.{numberOf}
 use Rattle.utf8.specs.Chars.{chars}
 use Rattle.words.specs.Word.{wordLen}
 use Rattle.words.specs.declared.Near.{Near}

@@ -1,6 +1,6 @@
 -- Each arm's row by computation; elsewhere no keyword has the slot.
 use borrow.Author.Tests.{ne-eqb}
-use Rattle.swar.specs.Lanes.{numberOf}
+use Rattle.swar.specs.Number.{numberOf}
 use Rattle.kinds.specs.Table.{keywords}
 use Rattle.keywords.specs.Search.{slotOf, rowIn}
 use Rattle.keywords.proofs.row_in.Statement.{statement}

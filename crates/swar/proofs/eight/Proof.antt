@@ -8,7 +8,7 @@ use lib.Dec.{leb}
 use lib.ListN.{length, drop, length-drop}
 use lib.Seq.{take-all}
 use borrow.Author.Needs.{needs}
-use Rattle.swar.specs.Lanes.{numberOf}
+use Rattle.swar.specs.Number.{numberOf}
 use Rattle.swar.proofs.eight.Statement.{statement}
 use Rattle.swar.proofs.eight.Tie as tie
 

@@ -5,7 +5,7 @@ use native.Mathlib.Nat.{le-refl}
 use native.Mathlib.Omega.{arith}
 use borrow.Author.Needs.{needs}
 use lib.ListN.{length, getD, drop, drop-of-length-le}
-use Rattle.swar.specs.Lanes.{numberOf}
+use Rattle.swar.specs.Number.{numberOf}
 use Rattle.swar.proofs.Numbers.{number-before, number-last, last-fits}
 use Rattle.swar.proofs.last_bytes.Statement.{statement}
 use Rattle.swar.proofs.last_bytes.Tie as tie

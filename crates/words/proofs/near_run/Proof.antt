@@ -8,7 +8,7 @@ use lib.Count.{trailingZeros, trailing-of-zero}
 use lib.Dec.{lit<}
 use lib.ListN.{take, drop}
 use lib.Pow.{pow-pos, shl-exact}
-use Rattle.swar.specs.Lanes.{numberOf}
+use Rattle.swar.specs.Number.{numberOf}
 use Rattle.swar.proofs.Numbers.{bytes-drop, number-mod}
 use Rattle.swar.proofs.Trailing.{zeros-lt}
 use Rattle.utf8.specs.Chars.{chars}

@@ -5,7 +5,7 @@ use native.Mathlib.Omega.{arith}
 use lib.ListN.{take, drop, length-drop}
 use borrow.Author.Needs.{needs}
 use Rattle.utf8.specs.Chars.{chars}
-use Rattle.swar.specs.Lanes.{numberOf}
+use Rattle.swar.specs.Number.{numberOf}
 use Rattle.swar.proofs.Numbers.{bytes-drop}
 use Rattle.kinds.specs.Table.{identToken}
 use Rattle.words.specs.Word.{wordLen}
