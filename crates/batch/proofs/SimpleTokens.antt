@@ -79,11 +79,6 @@ pub first-known : (b : ℕ) → b < 256 → eqb (firstKind b) EOF ≡ false
 unfolding firstKind rowsFrom operators isLetter
 first-known b h = not-true _ (true-of _ (every-below (λ x. not (eqb (firstKind x) EOF)) 256 tt b h))
 
--- the kind of a word is that of an identifier or a keyword
-pub word-small : (kind : ℕ) (word : List ℕ) → kind ≡ identToken word → kind < 128
-word-small kind word e =
-    ⊎-elim (λ i. omega (arith, e, i)) (λ t. let q = between-true BREAK (identToken word) VAR t in omega (arith, e, q .1)) (word-kind word)
-
 pub no-digit : (b : ℕ) → firstKind b ≢ INT → isDecimal b ≡ false
 no-digit b n = ⊎-elim (λ (e : isDecimal b ≡ true). absurd (n (first-digit b e))) (λ e. e) (either (isDecimal b))
 

@@ -4,10 +4,9 @@ use scanner::Token;
 use state::Part;
 ghost use mathlib.Core.Path.{_≡_};
 ghost use mathlib.Core.Bool.{false};
-ghost use Prim.Native.Nat.{_+_, _≤_, _<_};
+ghost use Prim.Native.Nat.{_+_, _≤_};
 ghost use lib.ListN.{length};
 ghost use lib.Seq.{sets};
-ghost use Rattle.kinds.specs.Table.{setsMark};
 ghost use Rattle.batch.specs.Layout.{tokenWidth, tokenNumbers};
 ghost use Rattle.batch.specs.Simple.{simpleToken};
 
@@ -26,20 +25,6 @@ pub(crate) fn none(at: usize) -> Next
         place: at,
         mark: false,
     }
-}
-
-// Is the mark set after a token of this kind? The bits of two numbers tell it, so that nothing is to be foreseen. They tell it of the
-// kinds below 128 alone: kind 129 would have the bit of 65.
-pub(crate) fn sets_mark(kind: u8) -> bool
-    requires { ⌜ kind < 128 ⌝ }
-    ensures { λ r. ⌜ r ≡ setsMark kind ⌝ }
-{
-    let marks: u64 = if kind < 64 {
-        0x2270_0018_0000_0010
-    } else {
-        0x1002
-    };
-    (marks >> (kind % 64)) & 1 == 1
 }
 
 // Writes a token without a value to the numbers from an index on; its text is the source's bytes from its start to an end.

@@ -5,7 +5,6 @@ use crate::literal::string;
 use crate::next::Next;
 use crate::next::none;
 use crate::next::put_shown;
-use crate::next::sets_mark;
 use crate::word::word;
 ghost use mathlib.Core.Path.{_≡_};
 ghost use Prim.Native.Nat.{_+_, _≤_, _<_};
@@ -34,7 +33,7 @@ fn operator(
     Next {
         found: true,
         place,
-        mark: sets_mark(kind),
+        mark: kinds::sets_mark(kind),
     }
 }
 
@@ -63,7 +62,7 @@ fn delimiter(
     Next {
         found: true,
         place,
-        mark: sets_mark(kind),
+        mark: kinds::sets_mark(kind),
     }
 }
 

@@ -2,7 +2,6 @@
 use crate::next::Next;
 use crate::next::none;
 use crate::next::put_shown;
-use crate::next::sets_mark;
 ghost use mathlib.Core.Path.{_≡_};
 ghost use mathlib.Core.Bool.{true};
 ghost use Prim.Native.Nat.{_+_, _≤_, _<_};
@@ -22,7 +21,7 @@ fn give_word(
     tokens: &mut [usize],
     to: usize,
 ) -> Next
-    requires { ⌜ (kind < 128) × (to + tokenWidth ≤ length (now tokens)) ⌝ }
+    requires { ⌜ to + tokenWidth ≤ length (now tokens) ⌝ }
     ensures { λ r. ⌜ (r ≡ record { found = true; place = end; mark = setsMark kind })
         × (now (tokens .exit) ≡ sets (now (tokens .entry)) to (tokenNumbers (wordOf kind position at end))) ⌝ }
 {
@@ -31,7 +30,7 @@ fn give_word(
     Next {
         found: true,
         place: end,
-        mark: sets_mark(kind),
+        mark: kinds::sets_mark(kind),
     }
 }
 

@@ -49,9 +49,7 @@ byte-small : (c : tie.After-slice-known) → getD (c .before .before .args .src 
 byte-small c = omega (arith, c .before .shared-slice-known .given (c .before .before .args .at))
 
 sets-mark-requires : tie.Need-sets-mark-requires
-sets-mark-requires c κs =
-    let k = c .before .before .before .before .before in
-    rw (k .before .before .pre .3) (first-small _ (byte-small k))
+sets-mark-requires c κs = search needs
 
 same-length : tie.Need-same-length
 same-length c = search needs

@@ -37,10 +37,7 @@ add-place c =
     omega (arith, operator-within (s .args .src .now) (s .args .at) (x .scan-operator .result) (x .scan-operator .ensures) (starts x))
 
 sets-mark-requires : tie.Need-sets-mark-requires
-sets-mark-requires c κs =
-    let x = c .before .before .before .before .before in
-    let s = x .before .before .before in
-    omega (arith, operator-kind (s .args .src .now) (s .args .at) (x .scan-operator .result) (x .scan-operator .ensures) (starts x) .1)
+sets-mark-requires c κs = search needs
 
 same-length : tie.Need-same-length
 same-length c = search needs

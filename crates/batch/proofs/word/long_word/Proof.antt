@@ -1,7 +1,6 @@
 -- `word::long_word` meets its contract: the word that the two searches tell.
 use native.Mathlib.Omega.{arith}
 use borrow.Author.Needs.{needs}
-use Rattle.batch.proofs.SimpleTokens.{word-small}
 use Rattle.batch.proofs.Giving.{gives-none, gives-word}
 use Rattle.batch.proofs.word.long_word.Statement.{statement}
 use Rattle.batch.proofs.word.long_word.Tie as tie
@@ -33,8 +32,7 @@ ident-token-requires : tie.Need-ident-token-requires
 ident-token-requires c κs = search needs
 
 give-word-requires : tie.Need-give-word-requires
-give-word-requires c κs =
-    (word-small _ _ (c .before .ident-token .ensures), c .before .before .before .before .before .before .before .pre .2)
+give-word-requires c κs = c .before .before .before .before .before .before .before .pre .2
 
 same-length : tie.Need-same-length
 same-length c = search needs

@@ -11,7 +11,6 @@ use Rattle.kinds.specs.Table.{identToken}
 use Rattle.words.specs.Word.{wordLen}
 use Rattle.words.specs.declared.Near.{Near}
 use Rattle.words.proofs.Marks.{run-room}
-use Rattle.batch.proofs.SimpleTokens.{word-small}
 use Rattle.batch.proofs.Giving.{gives-short, kind-told}
 use Rattle.batch.proofs.word.word.Statement.{statement}
 use Rattle.batch.proofs.word.word.Tie as tie
@@ -67,7 +66,7 @@ kind-is c =
     (c .kind-in .ensures)
 
 give-word-requires : tie.Need-give-word-requires
-give-word-requires c κs = (word-small _ _ (kind-is (c .before)), start (c .before .before) .pre .4)
+give-word-requires c κs = start (c .before .before) .pre .4
 
 same-length-2 : tie.Need-same-length-2
 same-length-2 c = search needs
