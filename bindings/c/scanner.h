@@ -80,10 +80,10 @@ enum scanner_refusal {
     SCANNER_OK,
     SCANNER_NOT_UTF8,       /* opening: not UTF-8 */
     SCANNER_TOO_LONG,       /* opening: more than SCANNER_MAX_SOURCE bytes */
-    SCANNER_SIZE,           /* size below the characters, or base + size too large */
+    SCANNER_SIZE,           /* size below the characters, base + size too large, or a scan past the size */
     SCANNER_POSITION,       /* a position outside base to base + size */
     SCANNER_NO_LINE,        /* line 0, or above the line count */
-    SCANNER_DOES_NOT_FIT,   /* the state is none of this source and these buffers */
+    SCANNER_DOES_NOT_FIT,   /* the state or the token is none of these buffers, or a slice is too short */
     SCANNER_TABLE_FULL,     /* more line starts than the table holds */
     SCANNER_LIST_FULL,      /* an error and a full list */
     SCANNER_AREA_FULL       /* more bytes to write than the area holds */
@@ -269,13 +269,14 @@ uint8_t scanner_error(const size_t *state, size_t state_len, const size_t *list,
  * The text of a token, as a part of the source or of the area, in `answer`
  * (SCANNER_PART_LEN numbers): 1 if it stands in the area, its start, its end.
  * Give the source that was scanned, and the area as the token's own scan left
- * it. Operators, keywords and EOF have an empty text. A part that does not lie in
- * its buffer, as one of a token that no scan gave may not, is refused with 6.
+ * it. The scans give operators, keywords and EOF an empty text. A part that does
+ * not lie in its buffer, as one of a token that no scan gave may not, is refused
+ * with 6.
  */
 uint8_t scanner_text(const uint8_t *src, size_t src_len, const uint8_t *area, size_t area_len,
                      const size_t *token, size_t token_len, size_t *answer, size_t answer_len);
 
-/* The value of a STRING, likewise; every other token has an empty one. */
+/* The value of a STRING, likewise; the scans give every other token an empty one. */
 uint8_t scanner_value(const uint8_t *src, size_t src_len, const uint8_t *area, size_t area_len,
                       const size_t *token, size_t token_len, size_t *answer, size_t answer_len);
 

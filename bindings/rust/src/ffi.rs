@@ -1,4 +1,4 @@
-//! The six functions of the library, over slices. The only unsafe code of this crate is here.
+//! The six functions of the library that this crate uses, over slices. The only unsafe code of this crate is here.
 //!
 //! A slice passes as its pointer and its length in elements. Each function answers the number of its refusal,
 //! or 0, reads and writes its slices within their lengths alone, keeps no pointer and ends: so it is proved.

@@ -1,5 +1,6 @@
 -- Steps of the code. No public contract cites this file. Scans of tokens that are given at once.
 use Prim.Native.Nat.{ℕ, _+_, _-_, _≤_, _<_, _^_}
+use Prim.Native.Char.{code}
 use mathlib.Core.Path.{_≡_}
 use mathlib.Core.Bool.{Bool, true, false, cond, _&&_}
 use mathlib.Core.List.{List, [], _∷_}
@@ -18,7 +19,7 @@ notDone s = record { done = false; state = s; token = noToken }
 
 -- has a token no line feed but perhaps its last byte?
 unfoldable pub endsInFeed : List ℕ → Lexed → Bool
-endsInFeed src x = cond (eqb (x .lfs) 0) true (cond (ltb 1 (x .lfs)) false (eqb (getD src (x .end - 1) 0) 10))
+endsInFeed src x = cond (eqb (x .lfs) 0) true (cond (ltb 1 (x .lfs)) false (eqb (getD src (x .end - 1) 0) (code "\n")))
 
 -- the line start after such a token, which ends at an offset
 abbrev pub startAfter : Lexed → ℕ → List ℕ

@@ -8,6 +8,6 @@ use Rattle.scanner.specs.declared.answer.Token.{Token}
 abbrev pub textShown : List ℕ → List ℕ → Token → Shown
 textShown src area t = shownOf src area (t .text)
 
--- "A second call gives a STRING's value so. For a token without one the part is empty."
+-- "A second call gives a STRING's value so." (A scan gives a token without one an empty part.)
 abbrev pub valueShown : List ℕ → List ℕ → Token → Shown
 valueShown src area t = shownOf src area (t .value)

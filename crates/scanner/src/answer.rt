@@ -82,17 +82,12 @@ fn part_from(area: bool, start: usize, bytes: usize, strays: usize) -> Part
     ensures { λ r. ⌜ r ≡ partFrom area start (lengthOf bytes strays area) ⌝ }
 {
     if area {
-        return Part {
-            area,
-            start,
-            end: start + (bytes + 2 * strays),
-        };
+        let written = bytes + 2 * strays;
+        let end = start + written;
+        return Part { area, start, end };
     }
-    Part {
-        area,
-        start,
-        end: start + bytes,
-    }
+    let end = start + bytes;
+    Part { area, start, end }
 }
 
 // Where the value starts: behind the text in the area, or after the source's opening quote.
@@ -166,6 +161,8 @@ pub(crate) fn plain_token(x: Lexed, start: usize, position: usize) -> Token
     } else {
         start
     };
+    let text_end = start + x.text_bytes;
+    let value_end = value_from + x.value_bytes;
     Token {
         kind: x.kind,
         inserted: x.inserted,
@@ -174,12 +171,12 @@ pub(crate) fn plain_token(x: Lexed, start: usize, position: usize) -> Token
         text: Part {
             area: false,
             start,
-            end: start + x.text_bytes,
+            end: text_end,
         },
         value: Part {
             area: false,
             start: value_from,
-            end: value_from + x.value_bytes,
+            end: value_end,
         },
     }
 }

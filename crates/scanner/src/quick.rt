@@ -44,7 +44,7 @@ fn ends_in_feed(src: &[u8], x: Lexed) -> bool
     if x.lfs > 1 {
         return false;
     }
-    src[x.end - 1] == 10
+    src[x.end - 1] == b'\n'
 }
 
 // Records the line starts of blanks, and the one after a token that ends in a line feed at an offset.

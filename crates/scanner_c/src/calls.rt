@@ -1,5 +1,5 @@
 // The exported functions: each answers the number of its refusal, or 0, and writes what it gives to a lent slice. A slice that is too
-// short for a state or an answer is refused by 6, and nothing is written.
+// short for a state, a token or an answer is refused by 6, and nothing is written.
 use crate::layout::ERROR;
 use crate::layout::POSITION;
 use crate::layout::no_error;

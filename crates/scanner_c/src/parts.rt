@@ -52,7 +52,7 @@ pub extern "C" fn scanner_text<'a>(
     answer_part(src, area, token, TEXT, answer)
 }
 
-// The value of a STRING, likewise; any other token has an empty one.
+// The value of a STRING, likewise; a scan gives any other token an empty one.
 #[no_mangle]
 pub extern "C" fn scanner_value<'a>(
     src: &'a [u8],

@@ -10,23 +10,23 @@ use Rattle.scanner.proofs.answer.part_from.Tie as tie
 in-area : (c : tie.Then1) → let a = c .before .args in a .start + (a .bytes + 2 * a .strays) < 2 ^ 64
 in-area c = rw (c .if1 .taken) at (c .before .pre)
 
-mul-t6 : tie.Need-mul-t6
-mul-t6 c = omega (arith, in-area c)
+mul-written : tie.Need-mul-written
+mul-written c = omega (arith, in-area c)
 
-add-t7 : tie.Need-add-t7
-add-t7 c = omega (arith, in-area c)
+add-written : tie.Need-add-written
+add-written c = omega (arith, in-area c)
 
-add-t8 : tie.Need-add-t8
-add-t8 c = omega (arith, in-area c)
+add-end : tie.Need-add-end
+add-end c = omega (arith, in-area c)
 
 returns : tie.Need-returns
 returns c = rw (c .if1 .taken)
 
-add-t9 : tie.Need-add-t9
-add-t9 c = search needs
+add-end-2 : tie.Need-add-end-2
+add-end-2 c = search needs
 
 returns-2 : tie.Need-returns-2
 returns-2 c = rw (c .if1 .left, add-zero)
 
 pub part-from-spec : {M : Type 1} → statement M
-part-from-spec = tie.close (tie.spec mul-t6 add-t7 add-t8 returns add-t9 returns-2)
+part-from-spec = tie.close (tie.spec mul-written add-written add-end returns add-end-2 returns-2)

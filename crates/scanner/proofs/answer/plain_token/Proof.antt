@@ -23,11 +23,11 @@ from c = ⊎-elim (λ w. rw (w .1, eq-eqb _ _ (w .0 .taken))) (λ w. rw (w .1, n
 add-value-from : tie.Need-add-value-from
 add-value-from c = search needs
 
-add-t7 : tie.Need-add-t7
-add-t7 c = search needs
+add-text-end : tie.Need-add-text-end
+add-text-end c = search needs
 
-add-t9 : tie.Need-add-t9
-add-t9 c =
+add-value-end : tie.Need-add-value-end
+add-value-end c =
     let j = c .before .before .before in
     let a = j .before .before .args in
     record { fits = value-fits (eqb (a .x .kind) STRING) (a .start) _ (a .x .«value_bytes») _ (from j) (j .before .before .pre .2) }
@@ -40,4 +40,4 @@ returns c =
     rw (p .0, p .1, from j, add-zero (a .x .«text_bytes»), add-zero (a .x .«value_bytes»))
 
 pub plain-token-spec : {M : Type 1} → statement M
-plain-token-spec = tie.close (tie.spec add-value-from add-t7 add-t9 returns)
+plain-token-spec = tie.close (tie.spec add-value-from add-text-end add-value-end returns)
