@@ -30,7 +30,7 @@ use Rattle.lexer.proofs.Ways.{number-there}
 use Rattle.lexer.proofs.Numerals.{numeralAt, numeral-said}
 use Rattle.lexer.proofs.Dispatch.{number-is}
 use Rattle.batch.specs.declared.next.Next.{Next}
-use Rattle.batch.specs.Layout.{tokenNumbers}
+use Rattle.parts.specs.Layout.{tokenNumbers}
 use Rattle.batch.specs.Simple.{rowsFrom, firstKind, simpleToken, Gives}
 use Rattle.batch.proofs.SimpleTokens.{letter-past}
 use Rattle.batch.proofs.Giving.{gives-plain}

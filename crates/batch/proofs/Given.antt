@@ -14,9 +14,9 @@ use Rattle.basics.proofs.Choice.{cond-ind, either}
 use Rattle.refusal.specs.Refusals.{DOES-NOT-FIT}
 use Rattle.state.specs.declared.state.State.{State}
 use Rattle.state.specs.Fits.{fits}
-use Rattle.scanner.specs.declared.answer.Token.{Token}
+use Rattle.parts.specs.declared.token.Token.{Token}
 use Rattle.scanner.specs.Scan.{After, scanOf}
-use Rattle.batch.specs.Layout.{tokenWidth, tokenNumbers}
+use Rattle.parts.specs.Layout.{tokenWidth, tokenNumbers}
 use Rattle.batch.specs.Many.{Run, Left, isLast, stopped, before, manyOf, tokensNumbers, tokenRoom, leftAfter, refusedWith, scanManyOf}
 use Rattle.scanner.proofs.Scans.{scan-unfit, scan-kept}
 

@@ -30,7 +30,7 @@ use Rattle.lexer.proofs.Known.{word-known, word-no-string}
 use Rattle.lexer.proofs.Dispatch.{word-is}
 use Rattle.lexer.proofs.Tokens.{identifier-said, keyword-said}
 use Rattle.batch.specs.declared.next.Next.{Next}
-use Rattle.batch.specs.Layout.{tokenNumbers}
+use Rattle.parts.specs.Layout.{tokenNumbers}
 use Rattle.scanner.specs.Steps.{tokenBy}
 use Rattle.batch.specs.Simple.{IsKeywords, simpleToken, wordOf, Gives}
 

@@ -14,7 +14,7 @@ use Rattle.state.specs.declared.state.State.{State}
 use Rattle.state.specs.Fits.{fits}
 use Rattle.scanner.specs.Scan.{After, scanOf}
 use Rattle.batch.specs.declared.round.Round.{Round}
-use Rattle.batch.specs.Layout.{tokenWidth, tokenNumbers}
+use Rattle.parts.specs.Layout.{tokenWidth, tokenNumbers}
 use Rattle.batch.specs.Many.{isLast, stopped, manyOf, leftAfter}
 use Rattle.batch.specs.Run.{Leads, Comes}
 use Rattle.batch.proofs.Given.{left-none, left-refused, left-last, left-more}

@@ -16,9 +16,9 @@ use Rattle.blanks.specs.declared.Skipped.{Skipped}
 use Rattle.blanks.specs.Blank.{skip, skippedAt}
 use Rattle.position.specs.Place.{inRange}
 use Rattle.state.specs.Fits.{fileOf, fitsAlone, fitsTable, fitsSource, fitsList, fits}
-use Rattle.scanner.specs.declared.answer.Token.{Token}
+use Rattle.parts.specs.declared.token.Token.{Token}
 use Rattle.scanner.specs.Scan.{After, scanOf}
-use Rattle.batch.specs.Layout.{tokenWidth, tokenNumbers}
+use Rattle.parts.specs.Layout.{tokenWidth, tokenNumbers}
 use Rattle.batch.specs.Many.{isLast, manyOf, leftAfter}
 use Rattle.batch.specs.declared.near.Near.{Near}
 use Rattle.batch.specs.declared.next.Next.{Next}

@@ -19,7 +19,7 @@ use Rattle.blanks.specs.Blank.{skip}
 use Rattle.lexer.specs.declared.lexed.Lexed.{Lexed}
 use Rattle.state.specs.declared.state.State.{State}
 use Rattle.state.specs.Fits.{fileOf, fits}
-use Rattle.scanner.specs.declared.answer.Token.{Token}
+use Rattle.parts.specs.declared.token.Token.{Token}
 use Rattle.scanner.specs.declared.answer.Scanned.{Scanned}
 use Rattle.scanner.specs.Scan.{After, scanOf}
 use Rattle.scanner.specs.Steps.{Reads, toWrite, isPlain, refusalBy, stateBy, tokenBy, startsFrom}

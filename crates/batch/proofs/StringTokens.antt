@@ -18,7 +18,7 @@ use Rattle.lexer.specs.Placed.{placed, said}
 use Rattle.lexer.proofs.QuotedTokens.{literalAs, string-closed}
 use Rattle.lexer.proofs.Dispatch.{string-is}
 use Rattle.batch.specs.declared.next.Next.{Next}
-use Rattle.batch.specs.Layout.{tokenNumbers}
+use Rattle.parts.specs.Layout.{tokenNumbers}
 use Rattle.scanner.specs.Steps.{tokenBy}
 use Rattle.batch.specs.Simple.{stringToken, Gives}
 

@@ -1,4 +1,3 @@
-pub mod Layout
 pub mod Many
 pub mod Near
 pub mod Simple

@@ -8,9 +8,9 @@ use lib.Seq.{sets}
 use Rattle.refusal.specs.Refusals.{DOES-NOT-FIT}
 use Rattle.kinds.specs.Kinds.{EOF}
 use Rattle.state.specs.declared.state.State.{State}
-use Rattle.scanner.specs.declared.answer.Token.{Token}
+use Rattle.parts.specs.declared.token.Token.{Token}
 use Rattle.scanner.specs.Scan.{scanOf}
-use Rattle.batch.specs.Layout.{tokenWidth, tokenNumbers}
+use Rattle.parts.specs.Layout.{tokenWidth, tokenNumbers}
 
 -- what scans leave, and the tokens that they gave
 pub record Run : Type 0 where

@@ -16,9 +16,9 @@ use Rattle.words.specs.Word.{isLetter}
 use Rattle.lexer.specs.declared.lexed.Lexed.{Lexed}
 use Rattle.lexer.specs.Lex.{lexToken}
 use Rattle.lexer.specs.Placed.{placed, said}
-use Rattle.scanner.specs.declared.answer.Token.{Token}
+use Rattle.parts.specs.declared.token.Token.{Token}
 use Rattle.batch.specs.declared.next.Next.{Next}
-use Rattle.batch.specs.Layout.{tokenNumbers}
+use Rattle.parts.specs.Layout.{tokenNumbers}
 use Rattle.scanner.specs.Steps.{isPlain, tokenBy}
 
 -- the rows whose name starts with a byte

@@ -1,4 +1,4 @@
-// Many scans in one call, and a token as ten numbers.
+// Many scans in one call.
 mod first;
 mod layout;
 mod literal;
@@ -11,6 +11,5 @@ mod simple;
 mod step;
 mod word;
 
-pub use layout::put_token;
 pub use many::Batch;
 pub use many::scan_many;

@@ -3,15 +3,15 @@ use crate::layout::put_token_at;
 use crate::next::Next;
 use crate::next::none;
 use crate::next::put_shown;
-use scanner::Token;
-use state::Part;
+use parts::Token;
+use parts::Part;
 ghost use mathlib.Core.Path.{_≡_};
 ghost use mathlib.Core.Bool.{false, true};
 ghost use Prim.Native.Nat.{ℕ, _+_, _≤_, _<_, _^_};
 ghost use lib.ListN.{length, getD};
 ghost use lib.Seq.{sets};
 ghost use Rattle.digits.specs.Digit.{isDecimal};
-ghost use Rattle.batch.specs.Layout.{tokenWidth, tokenNumbers};
+ghost use Rattle.parts.specs.Layout.{tokenWidth, tokenNumbers};
 ghost use Rattle.batch.specs.Simple.{quote, IsTable, stringToken, Gives};
 
 // Where the digits from a place on end, at the latest at the safe place.

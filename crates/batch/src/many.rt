@@ -2,14 +2,14 @@
 use crate::first::first_kinds;
 use crate::round::first_round;
 use crate::round::scan_round;
-use scanner::Token;
+use parts::Token;
 use state::State;
 ghost use mathlib.Core.Path.{_≡_};
 ghost use mathlib.Core.Bool.{true};
 ghost use Prim.Native.Nat.{_≤_};
 ghost use lib.ListN.{length};
 ghost use Rattle.state.specs.Fits.{fits};
-ghost use Rattle.batch.specs.Layout.{tokenWidth};
+ghost use Rattle.parts.specs.Layout.{tokenWidth};
 ghost use Rattle.batch.specs.Many.{scanManyOf};
 
 // The refusal of the call, or 0; the state after its scans; how many tokens they gave. A call that is refused leaves the state as it was and

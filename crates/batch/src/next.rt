@@ -1,13 +1,13 @@
 // What comes of a simple token, and how it is written.
 use crate::layout::put_token_at;
-use scanner::Token;
-use state::Part;
+use parts::Token;
+use parts::Part;
 ghost use mathlib.Core.Path.{_≡_};
 ghost use mathlib.Core.Bool.{false};
 ghost use Prim.Native.Nat.{_+_, _≤_};
 ghost use lib.ListN.{length};
 ghost use lib.Seq.{sets};
-ghost use Rattle.batch.specs.Layout.{tokenWidth, tokenNumbers};
+ghost use Rattle.parts.specs.Layout.{tokenWidth, tokenNumbers};
 ghost use Rattle.batch.specs.Simple.{simpleToken};
 
 // What comes of a simple token: whether it is found, the place after it, and the mark that it leaves.

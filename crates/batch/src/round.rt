@@ -2,7 +2,7 @@
 use crate::layout::put_token_at;
 use crate::run::Run;
 use crate::run::run_simple;
-use scanner::Token;
+use parts::Token;
 use scanner::scan;
 use state::State;
 ghost use mathlib.Core.Path.{_≡_};
@@ -11,7 +11,7 @@ ghost use Prim.Native.Nat.{_*_, _≤_, _<_};
 ghost use lib.Dec.{ltb};
 ghost use lib.ListN.{length};
 ghost use Rattle.state.specs.Fits.{fits};
-ghost use Rattle.batch.specs.Layout.{tokenWidth};
+ghost use Rattle.parts.specs.Layout.{tokenWidth};
 ghost use Rattle.batch.specs.Many.{isLast};
 ghost use Rattle.batch.specs.Simple.{IsTable, IsKeywords};
 ghost use Rattle.batch.specs.Run.{Comes};

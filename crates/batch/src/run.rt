@@ -7,7 +7,7 @@ ghost use mathlib.Core.Bool.{true};
 ghost use Prim.Native.Nat.{_+_, _-_, _*_, _≤_, _<_, _^_};
 ghost use lib.ListN.{length};
 ghost use Rattle.state.specs.Fits.{fits};
-ghost use Rattle.batch.specs.Layout.{tokenWidth};
+ghost use Rattle.parts.specs.Layout.{tokenWidth};
 ghost use Rattle.batch.specs.Simple.{IsTable, IsKeywords};
 ghost use Rattle.batch.specs.Run.{stateAt, IsSafe, Leads};
 

@@ -10,7 +10,7 @@ ghost use mathlib.Core.Path.{_≡_};
 ghost use Prim.Native.Nat.{_+_, _≤_, _<_};
 ghost use lib.ListN.{length, getD};
 ghost use Rattle.kinds.specs.Kinds.{ADD, LPAREN};
-ghost use Rattle.batch.specs.Layout.{tokenWidth};
+ghost use Rattle.parts.specs.Layout.{tokenWidth};
 ghost use Rattle.batch.specs.Near.{lineFeed};
 ghost use Rattle.batch.specs.Simple.{firstKind, IsTable, IsKeywords, Gives};
 

@@ -9,7 +9,7 @@ ghost use lib.ListN.{length, getD};
 ghost use lib.Seq.{sets};
 ghost use Rattle.words.specs.Word.{isLetter};
 ghost use Rattle.kinds.specs.Table.{setsMark};
-ghost use Rattle.batch.specs.Layout.{tokenWidth, tokenNumbers};
+ghost use Rattle.parts.specs.Layout.{tokenWidth, tokenNumbers};
 ghost use Rattle.batch.specs.Simple.{IsKeywords, wordOf, Gives};
 
 // Gives the word of a kind; only an identifier has a text.

@@ -20,7 +20,7 @@ use Rattle.reading.specs.Reading.{opened}
 use Rattle.state.specs.declared.state.State.{State}
 use Rattle.state.specs.Fits.{fileOf}
 use Rattle.state.specs.State.{fresh}
-use Rattle.state.specs.Opening.{maxSource, Begun, Opening, refusedWith, sized, openOf}
+use Rattle.opening.specs.Opening.{maxSource, Begun, Opening, refusedWith, sized, openOf}
 use Rattle.scanner.specs.Scan.{view}
 use Rattle.runs.specs.Calls.{Held, Accepted}
 use Rattle.runs.proofs.Seen.{viewOf}

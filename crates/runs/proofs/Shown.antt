@@ -18,7 +18,7 @@ use Rattle.utf8.proofs.Places.{place-fits}
 use Rattle.kinds.specs.Kinds.{STRING}
 use Rattle.lexer.specs.Lexeme.{Lexeme}
 use Rattle.lexer.specs.Placed.{placed, valueRead, textDiffersIn}
-use Rattle.state.specs.Queries.{Shown, shownIn, shownOf}
+use Rattle.parts.specs.Shown.{Shown, shownIn, shownOf}
 use Rattle.scanner.specs.Scan.{written, toArea, partFrom, textPart, valuePart}
 
 -- bytes that are shown

@@ -11,10 +11,10 @@ use Rattle.refusal.specs.Outcome.{gave}
 use Rattle.errors.specs.declared.layout.Error.{Error}
 use Rattle.errors.specs.Errors.{errorsOf}
 use Rattle.state.specs.declared.state.State.{State}
-use Rattle.state.specs.Opening.{openOf}
-use Rattle.state.specs.Queries.{Shown}
-use Rattle.scanner.specs.declared.answer.Token.{Token}
-use Rattle.scanner.specs.Text.{textShown, valueShown}
+use Rattle.opening.specs.Opening.{openOf}
+use Rattle.parts.specs.Shown.{Shown}
+use Rattle.parts.specs.declared.token.Token.{Token}
+use Rattle.parts.specs.Text.{textShown, valueShown}
 use Rattle.scanner.specs.Scan.{After, scanOf}
 
 -- what goes from call to call: the state, the line table and the error list

@@ -9,8 +9,8 @@ use Rattle.utf8.specs.Chars.{chars}
 use Rattle.kinds.specs.Kinds.{EOF}
 use Rattle.utf8.specs.Count.{isLf, count}
 use Rattle.reading.specs.Joined.{AllShut, moveError}
-use Rattle.state.specs.declared.part.Part.{Part}
-use Rattle.scanner.specs.declared.answer.Token.{Token}
+use Rattle.parts.specs.declared.part.Part.{Part}
+use Rattle.parts.specs.declared.token.Token.{Token}
 use Rattle.runs.specs.Calls.{Held, Accepted, Seen, tokens, Record, recordOf}
 
 -- "any first text that is empty or ends in a line feed"

@@ -15,8 +15,8 @@ use Rattle.lexer.specs.Lex.{lex}
 use Rattle.lexer.specs.Placed.{Placed, placed}
 use Rattle.reading.specs.Reading.{Reading, errorAt, after}
 use Rattle.state.specs.declared.state.State.{State}
-use Rattle.state.specs.declared.part.Part.{Part}
-use Rattle.scanner.specs.declared.answer.Token.{Token}
+use Rattle.parts.specs.declared.part.Part.{Part}
+use Rattle.parts.specs.declared.token.Token.{Token}
 use Rattle.scanner.specs.declared.answer.Scanned.{Scanned}
 use Rattle.state.specs.State.{advance}
 use Rattle.state.specs.Fits.{fits}

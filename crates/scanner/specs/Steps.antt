@@ -19,7 +19,7 @@ use Rattle.blanks.specs.Blank.{skip, skippedAt}
 use Rattle.lexer.specs.Lex.{lexToken}
 use Rattle.lexer.specs.Placed.{lengthOf, placed, said}
 use Rattle.state.specs.declared.state.State.{State}
-use Rattle.scanner.specs.declared.answer.Token.{Token}
+use Rattle.parts.specs.declared.token.Token.{Token}
 use Rattle.state.specs.State.{advance}
 use Rattle.state.specs.Fits.{fileOf, fits}
 use Rattle.scanner.specs.Scan.{partFrom, written, toArea, refusalFor, After}

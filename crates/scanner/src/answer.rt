@@ -1,6 +1,7 @@
 // What a scan answers: a token by its parts, and the state after it.
 use lexer::Lexed;
-use state::Part;
+use parts::Part;
+use parts::Token;
 use state::State;
 ghost use mathlib.Core.Path.{_≡_};
 ghost use mathlib.Core.Bool.{false, cond};
@@ -10,23 +11,6 @@ ghost use Rattle.kinds.specs.Kinds.{STRING};
 ghost use Rattle.lexer.specs.Placed.{lengthOf};
 ghost use Rattle.scanner.specs.Scan.{partFrom, noToken};
 ghost use Rattle.scanner.specs.Steps.{textLen, valueLen, tokenBy, isPlain, positionBy};
-
-pub struct Token {
-    pub kind: u8,
-    // a semicolon that does not stand in the text
-    pub inserted: bool,
-    pub position: usize,
-    // the code point of a CHAR
-    pub code: u32,
-    pub text: Part,
-    // the value of a STRING
-    pub value: Part,
-}
-
-impl Token {
-    // How many numbers a token is.
-    pub const NUMBERS: usize = 10;
-}
 
 // The refusal, or 0; the state after the scan; the token. A scan that is refused leaves the state as it was, and gives no token.
 pub struct Scanned {

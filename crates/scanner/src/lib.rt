@@ -1,22 +1,22 @@
 // The scanner: opening a text, one scan, and questions about it.
 mod answer;
-mod parts;
 mod quick;
 mod scanning;
 mod write;
 
 pub use answer::Scanned;
-pub use answer::Token;
+pub use opening::Opened;
+pub use opening::open;
+pub use parts::Part;
+pub use parts::Token;
+pub use parts::put_token;
+pub use parts::shown;
 pub use parts::text;
 pub use parts::value;
+pub use queries::error;
+pub use queries::line_start;
+pub use queries::position;
 pub use scanning::scan;
-pub use state::Opened;
-pub use state::Part;
 pub use state::State;
-pub use state::error;
-pub use state::line_start;
-pub use state::open;
-pub use state::position;
 pub use state::put_state;
-pub use state::shown;
 pub use state::state_in;

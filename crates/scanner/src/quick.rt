@@ -1,5 +1,5 @@
 // Quick scans: of tokens that show the source's own bytes and end before the size, where the table has room. What they do not do, they leave as it was.
-use crate::answer::Token;
+use parts::Token;
 use crate::answer::is_plain;
 use crate::answer::no_token;
 use crate::answer::plain_token;

@@ -12,10 +12,10 @@ use Rattle.position.specs.declared.Position.{Position}
 use Rattle.errors.specs.declared.layout.Error.{Error}
 use Rattle.errors.specs.Layout.{width, numbers}
 use Rattle.state.specs.Layout.{stateWidth, stateIn, stateNumbers}
-use Rattle.state.specs.Opening.{Begun, openOf}
-use Rattle.state.specs.Queries.{positionIn, lineStartIn, errorIn}
+use Rattle.opening.specs.Opening.{Begun, openOf}
+use Rattle.queries.specs.Queries.{positionIn, lineStartIn, errorIn}
 use Rattle.scanner.specs.Scan.{After, scanOf}
-use Rattle.batch.specs.Layout.{tokenWidth, tokenNumbers}
+use Rattle.parts.specs.Layout.{tokenWidth, tokenNumbers}
 
 -- what opening leaves in the lent slices, and its refusal or 0
 pub record Opened : Type 0 where

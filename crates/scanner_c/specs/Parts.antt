@@ -6,10 +6,10 @@ use lib.Dec.{eqb, ltb}
 use lib.ListN.{length, getD}
 use Rattle.refusal.specs.Outcome.{Outcome, refused, gave}
 use Rattle.refusal.specs.Refusals.{DOES-NOT-FIT}
-use Rattle.state.specs.declared.part.Part.{Part}
+use Rattle.parts.specs.declared.part.Part.{Part}
 use Rattle.state.specs.Layout.{bit}
-use Rattle.state.specs.Queries.{shownOf}
-use Rattle.batch.specs.Layout.{tokenWidth}
+use Rattle.parts.specs.Shown.{shownOf}
+use Rattle.parts.specs.Layout.{tokenWidth}
 use Rattle.scanner_c.specs.Calls.{Answered, answeredBy}
 
 -- how many numbers a part is

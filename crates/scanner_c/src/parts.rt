@@ -7,7 +7,7 @@ use crate::layout::put_part;
 use scanner::Token;
 ghost use mathlib.Core.Path.{_≡_};
 ghost use Prim.Native.Nat.{_+_, _≤_};
-ghost use Rattle.batch.specs.Layout.{tokenWidth};
+ghost use Rattle.parts.specs.Layout.{tokenWidth};
 ghost use Rattle.scanner_c.specs.Parts.{partWidth, partAsked, textNumbers, valueNumbers};
 
 // The part that stands at an index among the numbers of a token, if it lies in its buffer.

@@ -22,6 +22,10 @@ fitsAlone s = leb (s .offset) (s .place) && leb (s .offset) (s .size) && hasLine
 abbrev pub fitsTable : State → List ℕ → Bool
 fitsTable s table = fitting (fileOf s) table && leb (lineStart table (s .lines)) (s .offset)
 
+-- all that a question about lines is given
+abbrev pub fitsLines : State → List ℕ → Bool
+fitsLines s table = fitsAlone s && fitsTable s table
+
 -- "place beyond the source"
 abbrev pub fitsSource : State → List ℕ → Bool
 fitsSource s src = leb (s .place) (length src)

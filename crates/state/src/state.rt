@@ -1,6 +1,6 @@
 // The state of a scan, which goes from call to call by value.
 ghost use mathlib.Core.Path.{_≡_};
-ghost use Rattle.state.specs.Fits.{fileOf, fitsAlone, fitsTable, fits};
+ghost use Rattle.state.specs.Fits.{fileOf, fitsAlone, fitsTable, fitsLines, fits};
 ghost use Rattle.state.specs.State.{fresh, advance};
 
 pub struct State {
@@ -75,7 +75,7 @@ impl State {
     }
 
     // Does the state go together with itself?
-    pub(crate) fn fits_alone(self) -> bool
+    pub fn fits_alone(self) -> bool
         ensures { λ r. ⌜ r ≡ fitsAlone self ⌝ }
     {
         if self.offset > self.place {
@@ -91,13 +91,23 @@ impl State {
     }
 
     // Does it go together with a table of line starts?
-    pub(crate) fn fits_table(self, table: &[usize]) -> bool
+    fn fits_table(self, table: &[usize]) -> bool
         ensures { λ r. ⌜ r ≡ fitsTable self (now (table .entry)) ⌝ }
     {
         if !self.file().fits(table) {
             return false;
         }
         table[self.lines - 1] <= self.offset
+    }
+
+    // Does it go together with itself and with a table of line starts?
+    pub fn fits_lines(self, table: &[usize]) -> bool
+        ensures { λ r. ⌜ r ≡ fitsLines self (now (table .entry)) ⌝ }
+    {
+        if !self.fits_alone() {
+            return false;
+        }
+        self.fits_table(table)
     }
 
     // Does it go together with all that a scan is lent?

@@ -5,7 +5,7 @@ use native.Mathlib.Omega.{arith}
 use lib.ListN.{length}
 use borrow.Author.Needs.{needs}
 use Rattle.scanner.specs.Scan.{After}
-use Rattle.batch.specs.Layout.{tokenWidth}
+use Rattle.parts.specs.Layout.{tokenWidth}
 use Rattle.batch.proofs.Given.{token-fits}
 use Rattle.batch.proofs.Rounds.{comes-refused, comes-given}
 use Rattle.batch.proofs.round.scan_next.Statement.{statement}

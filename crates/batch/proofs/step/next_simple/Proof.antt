@@ -9,7 +9,7 @@ use borrow.Author.Needs.{needs}
 use Rattle.utf8.specs.Chars.{chars}
 use Rattle.blanks.specs.Blank.{skip, skippedAt}
 use Rattle.batch.specs.declared.near.Near.{Near}
-use Rattle.batch.specs.Layout.{tokenWidth}
+use Rattle.parts.specs.Layout.{tokenWidth}
 use Rattle.batch.specs.Near.{nearAs}
 use Rattle.batch.specs.Run.{reached}
 use Rattle.batch.proofs.Given.{token-fits}

@@ -7,7 +7,7 @@ use borrow.Author.Tests.{eq-eqb, ne-eqb}
 use lib.Dec.{eqb}
 use lib.Seq.{sets}
 use Rattle.kinds.specs.Kinds.{IDENT}
-use Rattle.batch.specs.Layout.{tokenNumbers}
+use Rattle.parts.specs.Layout.{tokenNumbers}
 use Rattle.batch.specs.Simple.{simpleToken}
 use Rattle.batch.proofs.word.give_word.Statement.{statement}
 use Rattle.batch.proofs.word.give_word.Tie as tie

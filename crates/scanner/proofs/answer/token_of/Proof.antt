@@ -8,7 +8,7 @@ use native.Mathlib.Omega.{arith}
 use borrow.Author.Needs.{needs}
 use lib.Dec.{eqb}
 use Rattle.kinds.specs.Kinds.{STRING}
-use Rattle.state.specs.declared.part.Part.{Part}
+use Rattle.parts.specs.declared.part.Part.{Part}
 use Rattle.scanner.specs.Steps.{textLen, valueLen}
 use Rattle.scanner.proofs.answer.token_of.Statement.{statement}
 use Rattle.scanner.proofs.answer.token_of.Tie as tie

@@ -5,7 +5,7 @@ use lib.Dec.{ltb}
 use lib.ListN.{length}
 use borrow.Author.Needs.{needs}
 use Rattle.errors.specs.Answers.{got}
-use Rattle.state.specs.Queries.{errorIn}
+use Rattle.queries.specs.Queries.{errorIn}
 use Rattle.state.specs.Layout.{stateWidth, stateIn}
 use Rattle.scanner_c.specs.Calls.{errorNumbers}
 use Rattle.scanner_c.proofs.Lengths.{first-short, second-short, long-enough}

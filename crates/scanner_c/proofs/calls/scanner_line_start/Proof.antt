@@ -5,7 +5,7 @@ use lib.Dec.{ltb}
 use lib.ListN.{length}
 use borrow.Author.Needs.{needs}
 use Rattle.position.specs.Answers.{outcome}
-use Rattle.state.specs.Queries.{lineStartIn}
+use Rattle.queries.specs.Queries.{lineStartIn}
 use Rattle.state.specs.Layout.{stateWidth, stateIn}
 use Rattle.scanner_c.specs.Calls.{lineStartNumbers}
 use Rattle.scanner_c.proofs.Lengths.{first-short, second-short, long-enough}

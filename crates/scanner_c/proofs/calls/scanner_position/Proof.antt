@@ -6,7 +6,7 @@ use lib.Dec.{ltb}
 use lib.ListN.{length, length-set}
 use borrow.Author.Needs.{needs}
 use Rattle.position.specs.Answers.{located}
-use Rattle.state.specs.Queries.{positionIn}
+use Rattle.queries.specs.Queries.{positionIn}
 use Rattle.state.specs.Layout.{stateWidth, stateIn}
 use Rattle.scanner_c.specs.Calls.{positionNumbers}
 use Rattle.scanner_c.proofs.Lengths.{first-short, second-short, long-enough}

@@ -6,7 +6,7 @@ use lib.ListN.{length}
 use borrow.Author.Needs.{needs}
 use borrow.Author.Tests.{le-leb}
 use Rattle.state.specs.Layout.{stateWidth}
-use Rattle.batch.specs.Layout.{tokenWidth}
+use Rattle.parts.specs.Layout.{tokenWidth}
 use Rattle.scanner_c.specs.Calls.{scanNumbers}
 use Rattle.scanner_c.proofs.Lengths.{first-short, second-short, long-enough}
 use Rattle.scanner_c.proofs.Scans.{scanned-refused}

@@ -5,8 +5,8 @@ use lib.Dec.{ltb}
 use lib.ListN.{length}
 use borrow.Author.Needs.{needs}
 use borrow.Author.Tests.{eq-eqb, ne-eqb}
-use Rattle.state.specs.Queries.{shownOf}
-use Rattle.batch.specs.Layout.{tokenWidth}
+use Rattle.parts.specs.Shown.{shownOf}
+use Rattle.parts.specs.Layout.{tokenWidth}
 use Rattle.scanner_c.specs.Parts.{partWidth, partIn}
 use Rattle.scanner_c.proofs.Lengths.{first-short, second-short, long-enough}
 use Rattle.scanner_c.proofs.parts.answer_part.Statement.{statement}
