@@ -1,7 +1,7 @@
 // What comes of a simple token, and how it is written.
 use crate::layout::put_token_at;
-use parts::Token;
 use parts::Part;
+use parts::Token;
 ghost use mathlib.Core.Path.{_≡_};
 ghost use mathlib.Core.Bool.{false};
 ghost use Prim.Native.Nat.{_+_, _≤_};

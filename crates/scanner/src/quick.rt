@@ -1,11 +1,11 @@
 // Quick scans: of tokens that show the source's own bytes and end before the size, where the table has room. What they do not do, they leave as it was.
-use parts::Token;
 use crate::answer::is_plain;
 use crate::answer::no_token;
 use crate::answer::plain_token;
 use crate::answer::position_at;
 use blanks::Skipped;
 use lexer::Lexed;
+use parts::Token;
 use state::State;
 ghost use mathlib.Core.Path.{_≡_};
 ghost use Prim.Native.Nat.{_+_, _-_, _≤_};
