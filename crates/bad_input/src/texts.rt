@@ -4,7 +4,7 @@ use crate::registers::NUMBER;
 use crate::registers::START;
 use crate::show;
 use utf8::Char;
-use utf8::Checked;
+use validation::Checked;
 
 fn show_char(c: Char) {
     show::number(c.code as usize);
@@ -30,9 +30,9 @@ fn call_utf8(source: &[u8], function: u8, n: usize, i: usize) {
     let code = (n % 4294967296) as u32;
     match function {
         b'r' => show_char(utf8::char_at(source, n)),
-        b'c' => show_checked(utf8::check(source)),
-        b'l' => show::number(utf8::encoded_len(code)),
-        b'b' => show::number(utf8::encoded_byte(code, i) as usize),
+        b'c' => show_checked(validation::check(source)),
+        b'l' => show::number(encoding::encoded_len(code)),
+        b'b' => show::number(encoding::encoded_byte(code, i) as usize),
         _ => show::number(utf8::sequence_len((n % 256) as u8)),
     }
 }

@@ -1,7 +1,7 @@
 // Checks what it reads from standard input, up to 65,536 bytes, 100,000 times over, and prints the last answer.
 use libc::STDIN_FILENO;
 use libc::STDOUT_FILENO;
-use utf8::Checked;
+use validation::Checked;
 
 fn number(answer: Checked) -> usize {
     match answer {
@@ -18,7 +18,7 @@ fn check_often(text: &mut [u8]) -> usize {
         if at < text.len() {
             text[at] = b'A';
         }
-        last = number(utf8::check(&text[..]));
+        last = number(validation::check(&text[..]));
     }
     last
 }

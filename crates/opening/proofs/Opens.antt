@@ -8,7 +8,7 @@ use native.Mathlib.Omega.{arith}
 use lib.ListN.{length, set}
 use borrow.Author.Tests.{le-leb, lt-leb, lt-ltb, le-ltb}
 use Rattle.utf8.specs.Chars.{chars, wellFormed, bytesBefore}
-use Rattle.utf8.specs.Answers.{Checking, valid, notUtf8, checkedOf}
+use Rattle.validation.specs.Answers.{Checking, valid, notUtf8, checkedOf}
 use Rattle.refusal.specs.Outcome.{gave}
 use Rattle.position.specs.Place.{inRange}
 use Rattle.state.specs.Fits.{fileOf}

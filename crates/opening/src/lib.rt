@@ -36,8 +36,8 @@ pub fn open(src: &[u8], base: usize, size: usize, table: &mut [usize]) -> Opened
     if src.len() > State::MAX_SOURCE {
         return Opened::Refused(refusal::TOO_LONG);
     }
-    match utf8::check(src) {
-        utf8::Checked::Bad(place) => Opened::NotUtf8 { place },
-        utf8::Checked::Valid(chars) => begin(chars, base, size, table),
+    match validation::check(src) {
+        validation::Checked::Bad(place) => Opened::NotUtf8 { place },
+        validation::Checked::Valid(chars) => begin(chars, base, size, table),
     }
 }

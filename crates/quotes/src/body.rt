@@ -93,7 +93,7 @@ fn error_of(given: Given) -> u8
 fn escape_piece(n: usize, code: u32, byte: bool) -> Piece
     ensures { λ r. ⌜ r ≡ escapePiece n code byte ⌝ }
 {
-    let bytes = if byte { 1 } else { utf8::encoded_len(code) };
+    let bytes = if byte { 1 } else { encoding::encoded_len(code) };
     Piece {
         chars: n,
         count: 1,

@@ -2,12 +2,9 @@ pub mod Bytes
 pub mod Rows
 pub mod First
 pub mod Places
-pub mod AsciiBlock
-pub mod Answer
 pub mod Ends
 pub mod Runs
 pub mod Append
 pub mod Encoding
-pub mod Written
 pub mod Vectors
 pub mod Count

@@ -2,7 +2,6 @@
 use mathlib.Core.Path.{_≡_, refl}
 use mathlib.Core.List.{[], _∷_}
 use Rattle.utf8.specs.Chars.{charsFrom, chars, firstChar}
-use Rattle.utf8.specs.Answers.{valid, notUtf8, checkedOf}
 
 -- A, not identical to, Alpha, full stop (RFC 3629, section 7)
 rfc-1 : chars (0x41 ∷ 0xE2 ∷ 0x89 ∷ 0xA2 ∷ 0xCE ∷ 0x91 ∷ 0x2E ∷ [])
@@ -14,20 +13,3 @@ rfc-1 = refl
 rfc-4 : chars (0xEF ∷ 0xBB ∷ 0xBF ∷ 0xF0 ∷ 0xA3 ∷ 0x8E ∷ 0xB4 ∷ []) ≡ record { code = 0xFEFF; width = 3 } ∷ record { code = 0x233B4; width = 4 } ∷ []
 unfolding charsFrom firstChar
 rfc-4 = refl
-
--- an overlong form, and a surrogate half
-overlong : checkedOf (0x2F ∷ 0xC0 ∷ 0xAE ∷ []) ≡ notUtf8 1
-unfolding charsFrom firstChar
-overlong = refl
-
-half : checkedOf (0x2F ∷ 0x2F ∷ 0xED ∷ 0xA0 ∷ 0x80 ∷ []) ≡ notUtf8 2
-unfolding charsFrom firstChar
-half = refl
-
-cut : checkedOf (0xC3 ∷ 0xA9 ∷ 0xE2 ∷ 0x82 ∷ []) ≡ notUtf8 2
-unfolding charsFrom firstChar
-cut = refl
-
-replacement : checkedOf (0xEF ∷ 0xBF ∷ 0xBD ∷ []) ≡ valid 1
-unfolding charsFrom firstChar
-replacement = refl

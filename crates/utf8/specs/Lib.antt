@@ -1,6 +1,5 @@
 pub mod Table
 pub mod Chars
-pub mod Answers
 pub mod Bytes
 pub mod Steps
 pub mod Count

@@ -1,10 +1,8 @@
 -- Steps of the code. No public contract cites this file.
 -- What is tested byte by byte; proofs/Rows.antt shows that it finds the row of the table.
-use Prim.Native.Nat.{ℕ, _+_, _/_}
-use mathlib.Core.Bool.{Bool, true, cond, _&&_}
-use mathlib.Core.List.{List, [], _∷_}
-use lib.Dec.{ltb, leb, eqb}
-use lib.ListN.{length, take, drop}
+use Prim.Native.Nat.{ℕ}
+use mathlib.Core.Bool.{Bool, cond}
+use lib.Dec.{ltb, eqb}
 use Rattle.basics.specs.Between.{between}
 use Rattle.utf8.specs.declared.Char.{Char}
 use Rattle.utf8.specs.Chars.{charOf}
@@ -35,20 +33,3 @@ sequence a b c d =
 -- the character that a text's first four bytes begin with; a byte past the end counts as 0, which continues nothing
 unfoldable pub decoded : ℕ → ℕ → ℕ → ℕ → Char
 decoded a b c d = charOf (sequence a b c d) a b c d
-
--- are the bytes of a text all ASCII
-abbrev pub allAscii : List ℕ → Bool
-allAscii [] = true
-allAscii (b ∷ s) = ltb b 0x80 && allAscii s
-
--- do 32 bytes of ASCII stand at a place
-unfoldable pub asciiBlock : List ℕ → ℕ → Bool
-asciiBlock s at = leb (at + 32) (length s) && allAscii (take 32 (drop at s))
-
--- a code without its last six bits, so many times, at most three
-unfoldable pub digit : ℕ → ℕ → ℕ
-digit code times = cond (eqb times 0) code (cond (eqb times 1) (code / 64) (cond (eqb times 2) (code / 4096) (code / 262144)))
-
--- what the first of n bytes adds to the first bits of a code
-unfoldable pub lead : ℕ → ℕ
-lead n = cond (eqb n 1) 0 (cond (eqb n 2) 0xC0 (cond (eqb n 3) 0xE0 0xF0))

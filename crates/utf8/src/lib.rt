@@ -1,13 +1,8 @@
-// UTF-8 by RFC 3629: the character at a place, and the check of a whole text.
-mod ascii;
-mod encode;
+// UTF-8 by RFC 3629: the character at a place of a text.
 mod sequence;
 
 ghost use mathlib.Core.Path.{_≡_};
 ghost use Rattle.utf8.specs.Chars.{charAt, isStray};
-ghost use Rattle.utf8.specs.Answers.{says, checkedOf};
-pub use encode::encoded_byte;
-pub use encode::encoded_len;
 pub use sequence::byte;
 pub use sequence::sequence_len;
 
@@ -15,12 +10,6 @@ pub use sequence::sequence_len;
 pub struct Char {
     pub code: u32,
     pub width: usize,
-}
-
-// A text that was checked: how many characters it has, or the place of a byte that belongs to no well-formed character.
-pub enum Checked {
-    Valid(usize),
-    Bad(usize),
 }
 
 // The character at a place of a text; past the end one of no bytes.
@@ -48,31 +37,4 @@ pub fn is_stray(c: Char) -> bool
     ensures { λ r. ⌜ r ≡ isStray c ⌝ }
 {
     c.width == 1 && c.code == 0xFFFD
-}
-
-// Checks a text: blocks of ASCII at once, and what lies between them character by character.
-pub fn check(s: &[u8]) -> Checked
-    ensures { λ r. ⌜ says r ≡ checkedOf (now (s .entry)) ⌝ }
-{
-    let mut at = 0;
-    let mut count = 0;
-    // up to here no block of ASCII starts
-    let mut tried = 0;
-    while at < s.len() {
-        if tried <= at {
-            if ascii::is_block(s, at) {
-                at += 32;
-                count += 32;
-                continue;
-            }
-            tried = at + 32;
-        }
-        let c = char_at(s, at);
-        if is_stray(c) {
-            return Checked::Bad(at);
-        }
-        at += c.width;
-        count += 1;
-    }
-    Checked::Valid(count)
 }

@@ -18,11 +18,11 @@ pub(crate) fn put(area: &mut [u8], to: usize, b: u8) -> usize
 pub(crate) fn put_code(area: &mut [u8], to: usize, code: u32) -> usize
     ensures { λ r. ⌜ Writes (now (area .entry)) to (encode code) (now (area .exit)) r ⌝ }
 {
-    let len = utf8::encoded_len(code);
+    let len = encoding::encoded_len(code);
     let mut n = to;
     let mut k = 0;
     while k < len {
-        n = put(area, n, utf8::encoded_byte(code, k));
+        n = put(area, n, encoding::encoded_byte(code, k));
         k += 1;
     }
     n

@@ -1,7 +1,7 @@
 -- `open` meets its contract: the length and the check are the definition's tests, and the rest is `begin`.
 use mathlib.Core.Path.{sym, ap, _∙_}
 use borrow.Author.Needs.{needs}
-use Rattle.utf8.specs.Answers.{says}
+use Rattle.validation.specs.Answers.{says}
 use Rattle.opening.proofs.Opens.{open-long, open-bad, open-begun}
 use Rattle.opening.proofs.open.Statement.{statement}
 use Rattle.opening.proofs.open.Tie as tie

@@ -1,6 +1,6 @@
 // Blocks of 32 ASCII bytes.
 ghost use mathlib.Core.Path.{_≡_};
-ghost use Rattle.utf8.specs.Steps.{asciiBlock};
+ghost use Rattle.validation.specs.Steps.{asciiBlock};
 
 // Are there 32 bytes at a place, all of them below 128? Their greatest byte tells: a loop that is made of few wide steps.
 pub(crate) fn is_block(s: &[u8], at: usize) -> bool

@@ -10,9 +10,9 @@ use lib.Dec.{eqb}
 use lib.ListN.{length, getD}
 use borrow.Author.Tests.{lt-ltb, le-ltb}
 use Rattle.basics.proofs.Choice.{cond-ind, below-it, above-it}
 use Rattle.utf8.specs.Chars.{octets, encode}
-use Rattle.utf8.specs.Steps.{digit, lead}
+use Rattle.encoding.specs.Steps.{digit, lead}
 use Rattle.utf8.proofs.Encoding.{encode-scalar, octets-two, octets-three, octets-four}
 
 pub encode-one : (n : ℕ) → n < 0x80 → encode n ≡ n ∷ []
 unfolding octets

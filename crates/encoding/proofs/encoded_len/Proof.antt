@@ -1,11 +1,11 @@
--- `utf8::encode::encoded_len` meets its contract: each return has a range of codes.
+-- `encoding::encoded_len` meets its contract: each return has a range of codes.
 use mathlib.Core.Path.{sym, ap}
 use mathlib.Core.Logic.{inl, inr}
 use native.Mathlib.Omega.{arith}
 use lib.ListN.{length}
-use Rattle.utf8.proofs.Written.{encode-one, encode-two, encode-three, encode-four, encode-surrogate, encode-above}
-use Rattle.utf8.proofs.encode.encoded_len.Statement.{statement}
-use Rattle.utf8.proofs.encode.encoded_len.Tie as tie
+use Rattle.encoding.proofs.Written.{encode-one, encode-two, encode-three, encode-four, encode-surrogate, encode-above}
+use Rattle.encoding.proofs.encoded_len.Statement.{statement}
+use Rattle.encoding.proofs.encoded_len.Tie as tie
 
 returns : tie.Need-returns
 returns c = let x = c .before .args in sym (ap length (encode-one (x .code) (c .if1 .taken)))

@@ -1,8 +1,8 @@
--- `utf8::encode::lead_of` meets its contract: each arm is a case of the definition.
+-- `encoding::lead_of` meets its contract: each arm is a case of the definition.
 use borrow.Author.Tests.{ne-eqb}
-use Rattle.utf8.specs.Steps.{lead}
-use Rattle.utf8.proofs.encode.lead_of.Statement.{statement}
-use Rattle.utf8.proofs.encode.lead_of.Tie as tie
+use Rattle.encoding.specs.Steps.{lead}
+use Rattle.encoding.proofs.lead_of.Statement.{statement}
+use Rattle.encoding.proofs.lead_of.Tie as tie
 
 returns : tie.Need-returns
 unfolding lead

@@ -10,11 +10,11 @@ use lib.ListN.{length, getD, take, drop}
 use borrow.Author.Tests.{ltb-true, ne-eqb}
 use Rattle.basics.proofs.Choice.{and-split}
 use Rattle.basics.proofs.Lists.{drop-next}
 use Rattle.utf8.specs.declared.Char.{Char}
 use Rattle.utf8.specs.Chars.{charAt, chars, isStray, noStray, bytesBefore}
-use Rattle.utf8.specs.Answers.{Checking, valid, notUtf8, checkedOf}
-use Rattle.utf8.specs.Steps.{allAscii}
+use Rattle.validation.specs.Answers.{Checking, valid, notUtf8, checkedOf}
+use Rattle.validation.specs.Steps.{allAscii}
 use Rattle.utf8.proofs.First.{there-chars, ascii, chars-ascii, chars-end}
 
 -- the answer of a text whose first `count` characters, in `at` bytes, are well formed, and whose others are cs
 abbrev pub checkedFrom : ℕ → ℕ → List Char → Checking

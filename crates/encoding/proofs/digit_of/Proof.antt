@@ -1,8 +1,8 @@
--- `utf8::encode::digit_of` meets its contract: each arm is a case of the definition.
+-- `encoding::digit_of` meets its contract: each arm is a case of the definition.
 use borrow.Author.Tests.{ne-eqb}
-use Rattle.utf8.specs.Steps.{digit}
-use Rattle.utf8.proofs.encode.digit_of.Statement.{statement}
-use Rattle.utf8.proofs.encode.digit_of.Tie as tie
+use Rattle.encoding.specs.Steps.{digit}
+use Rattle.encoding.proofs.digit_of.Statement.{statement}
+use Rattle.encoding.proofs.digit_of.Tie as tie
 
 returns : tie.Need-returns
 unfolding digit

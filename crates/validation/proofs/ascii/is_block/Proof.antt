@@ -1,4 +1,4 @@
--- `utf8::ascii::is_block` meets its contract. The loop's invariant: the bytes so far are ASCII just where the greatest of them is.
+-- `ascii::is_block` meets its contract. The loop's invariant: the bytes so far are ASCII just where the greatest of them is.
 use Prim.Native.Nat.{_+_, _-_, _≤_}
 use mathlib.Core.Path.{_≡_, refl, sym, ap, _∙_}
 use mathlib.Core.Logic.{⊎-elim}
@@ -6,10 +6,10 @@ use native.Mathlib.Omega.{arith}
 use borrow.Author.Needs.{needs}
 use lib.Dec.{ltb}
 use lib.ListN.{length, take, drop}
-use Rattle.utf8.specs.Steps.{allAscii}
-use Rattle.utf8.proofs.AsciiBlock.{ascii-greater, ascii-no-greater, block-short, block-there}
-use Rattle.utf8.proofs.ascii.is_block.Statement.{statement}
-use Rattle.utf8.proofs.ascii.is_block.Tie as tie
+use Rattle.validation.specs.Steps.{allAscii}
+use Rattle.validation.proofs.AsciiBlock.{ascii-greater, ascii-no-greater, block-short, block-there}
+use Rattle.validation.proofs.ascii.is_block.Statement.{statement}
+use Rattle.validation.proofs.ascii.is_block.Tie as tie
 
 abbrev Inv-loop : tie.InvT-loop
 Inv-loop s at greatest₀ k₀ greatest k = (k ≤ 32) × (at + 32 ≤ length s) × (allAscii (take k (drop at s)) ≡ ltb greatest 0x80)

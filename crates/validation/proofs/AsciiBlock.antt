@@ -9,7 +9,7 @@ use lib.ListN.{length, getD, take, drop}
 use borrow.Author.Tests.{ltb-true, lt-ltb, leb-true, le-leb, lt-leb}
 use Rattle.basics.proofs.Choice.{and-split}
 use Rattle.basics.proofs.Lists.{take-more}
-use Rattle.utf8.specs.Steps.{allAscii, asciiBlock}
+use Rattle.validation.specs.Steps.{allAscii, asciiBlock}
 
 allAscii-snoc : (s : List ℕ) (b : ℕ) → allAscii (s ++ (b ∷ [])) ≡ allAscii s && ltb b 0x80
 allAscii-snoc [] b = and-true (ltb b 0x80)

@@ -6,9 +6,9 @@ use mathlib.Core.Option.{Option, none, some}
 use lib.ListN.{length}
 use Rattle.refusal.specs.Outcome.{Outcome, refused, gave}
 use Rattle.refusal.specs.Refusals.{NOT-UTF8}
-use Rattle.utf8.specs.declared.Checked.{Checked}
-use Rattle.utf8.specs.declared.Checked.the-variants.{Valid, Bad}
+use Rattle.validation.specs.declared.Checked.{Checked}
+use Rattle.validation.specs.declared.Checked.the-variants.{Valid, Bad}
 use Rattle.utf8.specs.Chars.{chars, wellFormed, bytesBefore}
 
 -- the number of characters or the refusal, and the place that the refusal carries
 pub record Checking : Type 0 where

@@ -1,18 +1,18 @@
--- `utf8::check` meets its contract. The loop's invariant: what is left of the text gives the answer, with the count and the place so far.
+-- `check` meets its contract. The loop's invariant: what is left of the text gives the answer, with the count and the place so far.
 use Prim.Native.Nat.{_+_, _-_, _≤_}
 use mathlib.Core.Path.{_≡_, sym, _∙_}
 use mathlib.Core.Bool.{true}
 use native.Mathlib.Omega.{arith}
 use borrow.Author.Needs.{needs}
 use lib.ListN.{length, take, drop}
 use Rattle.utf8.specs.Chars.{chars}
-use Rattle.utf8.specs.Answers.{checkedOf}
-use Rattle.utf8.specs.Steps.{allAscii}
+use Rattle.validation.specs.Answers.{checkedOf}
+use Rattle.validation.specs.Steps.{allAscii}
 use Rattle.utf8.proofs.First.{there-least, there-fits}
-use Rattle.utf8.proofs.AsciiBlock.{block-true}
-use Rattle.utf8.proofs.Answer.{checkedFrom, checked-start, checked-end, checked-next, checked-bad, checked-ascii}
-use Rattle.utf8.proofs.check.Statement.{statement}
-use Rattle.utf8.proofs.check.Tie as tie
+use Rattle.validation.proofs.AsciiBlock.{block-true}
+use Rattle.validation.proofs.Answer.{checkedFrom, checked-start, checked-end, checked-next, checked-bad, checked-ascii}
+use Rattle.validation.proofs.check.Statement.{statement}
+use Rattle.validation.proofs.check.Tie as tie
 
 abbrev Inv-loop : tie.InvT-loop
 Inv-loop s at₀ count₀ tried₀ at count tried = (at ≤ length s) × (count ≤ at) × (checkedOf s ≡ checkedFrom count at (chars (drop at s)))

@@ -1,14 +1,14 @@
--- `utf8::encode::encoded_byte` meets its contract: by the place of the byte among those that the code is written in.
+-- `encoding::encoded_byte` meets its contract: by the place of the byte among those that the code is written in.
 use Prim.Native.Nat.{_-_}
 use mathlib.Core.Path.{sym, _∙_}
 use native.Mathlib.Omega.{arith}
 use borrow.Author.Tests.{ne-eqb}
 use lib.ListN.{List·getD-eq-default}
 use Rattle.utf8.specs.Chars.{encode}
-use Rattle.utf8.proofs.Written.{encode-at, code-limit, digit-most, lead-most}
+use Rattle.encoding.proofs.Written.{encode-at, code-limit, digit-most, lead-most}
 use borrow.Author.Needs.{needs}
-use Rattle.utf8.proofs.encode.encoded_byte.Statement.{statement}
-use Rattle.utf8.proofs.encode.encoded_byte.Tie as tie
+use Rattle.encoding.proofs.encoded_byte.Statement.{statement}
+use Rattle.encoding.proofs.encoded_byte.Tie as tie
 
 encoded-len-requires : tie.Need-encoded-len-requires
 encoded-len-requires c κs = search needs

@@ -1,0 +1,3 @@
+pub mod AsciiBlock
+pub mod Answer
+pub mod Vectors
