@@ -23,11 +23,11 @@ no-space i b = not (eqb b 0x20)
 abbrev well-named : ℕ → Bool
 well-named k = leb (length (nameOf k)) 11 && every no-space 0 (nameOf k)
 
-named : (k : ℕ) → k < 82 → T (well-named k)
+named : (k : ℕ) → k < 256 → T (well-named k)
 unfolding rowOf table specials operators keywords
-named k h = every-below well-named 82 tt k h
+named k h = every-below well-named 256 tt k h
 
-module _ (k : ℕ) (h : k < 82) where
+module _ (k : ℕ) (h : k < 256) where
   pub name-short : length (nameOf k) ≤ 11
   name-short = leb→le _ _ (and-left (leb (length (nameOf k)) 11) (every no-space 0 (nameOf k)) (named k h))
 

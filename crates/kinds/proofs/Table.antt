@@ -1,13 +1,13 @@
--- The place of each row of the table is its kind, and there are no names above the kinds.
-use Prim.Native.Nat.{ℕ, _≤_, _<_}
+-- Each number below the length of the table is the kind of one row, and there are no names from there on.
+use Prim.Native.Nat.{ℕ, suc, _-_, _≤_, _<_}
 use mathlib.Core.Path.{_≡_}
-use mathlib.Core.Bool.{Bool}
-use mathlib.Core.List.{[]}
+use mathlib.Core.Bool.{cond}
+use mathlib.Core.List.{List, [], _∷_}
 use lib.Dec.{eqb, eqb→eq}
-use lib.ListN.{getD}
+use lib.ListN.{length}
 use Rattle.basics.proofs.Choice.{true-of}
 use Rattle.basics.specs.Same.{same}
-use Rattle.basics.proofs.Every.{every-entry}
+use Rattle.basics.proofs.Every.{every-below}
 use Rattle.basics.proofs.Lists.{same-true}
 use Rattle.kinds.specs.Kinds.{NONE}
 use Rattle.kinds.specs.Table.{Row, other, table, specials, operators, keywords, rowOf, nameOf}
@@ -17,13 +17,17 @@ use Rattle.kinds.proofs.Ranges.{every-within}
 abbrev pub none : Row
 none = other NONE ""
 
-abbrev placed : ℕ → Row → Bool
-placed k row = eqb k (row .kind)
+-- how many rows are of a kind
+abbrev rows-of : ℕ → List Row → ℕ
+rows-of k [] = 0
+rows-of k (row ∷ rows) = cond (eqb k (row .kind)) (suc (rows-of k rows)) (rows-of k rows)
 
-pub kind-at : (k : ℕ) → k < 82 → k ≡ getD table k none .kind
+pub one-row : (k : ℕ) → k < length table → rows-of k table ≡ 1
 unfolding table specials operators keywords
-kind-at k h = eqb→eq k (getD table k none .kind) (every-entry placed table none tt k h)
+one-row k h = eqb→eq (rows-of k table) 1 (every-below (λ m. eqb (rows-of m table) 1) (length table) tt k h)
 
-pub no-name : (k : ℕ) → 82 ≤ k → k < 256 → [] ≡ nameOf k
+pub no-name : (k : ℕ) → length table ≤ k → k < 256 → [] ≡ nameOf k
 unfolding table specials operators keywords rowOf same
-no-name k l h = same-true [] (nameOf k) (true-of (same [] (nameOf k)) (every-within (λ m. same [] (nameOf m)) 82 174 tt k l h))
+no-name k l h =
+    same-true [] (nameOf k)
+    (true-of (same [] (nameOf k)) (every-within (λ m. same [] (nameOf m)) (length table) (256 - length table) tt k l h))

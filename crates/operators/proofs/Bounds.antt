@@ -9,15 +9,14 @@ use native.Mathlib.Omega.{arith}
 use lib.Dec.{T, leb, eqb}
 use lib.ListN.{length}
 use borrow.Author.Tests.{eqb-true, leb-true, leb-false}
-use Rattle.basics.specs.Between.{between}
 use Rattle.basics.specs.Same.{same}
 use Rattle.basics.proofs.Choice.{cond-ind, either, true-of, and-left, and-right, and-split}
 use Rattle.basics.proofs.Every.{each, each-ind}
 use Rattle.basics.proofs.Lists.{same-true}
 use Rattle.utf8.specs.declared.Char.{Char}
 use Rattle.utf8.proofs.Ends.{Ends, ends-tail, ends-some}
-use Rattle.kinds.specs.Kinds.{ILLEGAL, ADD, COLON}
-use Rattle.kinds.specs.Table.{Row, operators}
+use Rattle.kinds.specs.Kinds.{ILLEGAL}
+use Rattle.kinds.specs.Table.{Row, operators, specials, table, rowOf, isOperator}
 use Rattle.operators.specs.declared.Operator.{Operator}
 use Rattle.operators.specs.Longest.{begins, op, none, longest, operatorOf}
 
@@ -82,11 +81,11 @@ pub operator-none : (r : List Char) → eqb (operatorOf r .kind) ILLEGAL ≡ eqb
 unfolding operators
 operator-none r = longest-ind Agree some r refl (λ row t _. both-false (eqb (row .kind) ILLEGAL) (eqb (length (row .name)) 0) t) operators tt
 
--- any other is from ADD to COLON
-pub operator-proper : (r : List Char) → (operatorOf r .len ≡ 0) ⊎ (between ADD (operatorOf r .kind) COLON ≡ true)
-unfolding operators
+-- any other is of the class of operators
+pub operator-proper : (r : List Char) → (operatorOf r .len ≡ 0) ⊎ (isOperator (operatorOf r .kind) ≡ true)
+unfolding rowOf table specials operators
 operator-proper r =
-    longest-ind (λ x. (x .len ≡ 0) ⊎ (between ADD (x .kind) COLON ≡ true)) (λ row. between ADD (row .kind) COLON) r
+    longest-ind (λ x. (x .len ≡ 0) ⊎ (isOperator (x .kind) ≡ true)) (λ row. isOperator (row .kind)) r
     (inl refl) (λ row t _. inr (true-of _ t)) operators tt
 
 -- none is of more than three characters

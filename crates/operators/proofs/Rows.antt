@@ -8,7 +8,6 @@ use mathlib.Core.Logic.{⊎-elim}
 use lib.Dec.{T, eqb}
 use lib.ListN.{length, getD, drop}
 use borrow.Author.Tests.{eq-eqb, ne-eqb, eqb-true}
-use Rattle.basics.specs.Spelling.{spelled}
 use Rattle.basics.proofs.Choice.{true-of, either}
 use Rattle.basics.proofs.Every.{each, each-ind}
 use Rattle.utf8.specs.Chars.{chars}
@@ -190,10 +189,10 @@ no-leads a ks (x ∷ xs) n t = ne-eqb a x (λ e. false≢true (sym n ∙ ap (λ 
 no-rows : (a : ℕ) (ks : List ℕ) → elem a ks ≡ false → (rows : List Row) → T (each (λ row. listed ks (row .name)) rows) → among a rows ≡ []
 no-rows a ks n = each-ind (λ row. listed ks (row .name)) (λ rows. among a rows ≡ []) refl (λ row rows t same. rw (no-leads a ks (row .name) n t) same)
 
--- the first codes of the table, the code's last arm first
-abbrev pub firsts : List ℕ
-firsts = spelled ";}]),{[(.&><:=!^%/*|-+"
+-- the numbers are the first codes of all rows, and maybe others
+abbrev pub leading : List ℕ → Bool
+leading ks = each (λ row. listed ks (row .name)) operators
 
-pub none-is : (s : List ℕ) (p : ℕ) → NotIn (getD s p 0) firsts → none ≡ operatorOf (chars (drop p s))
-unfolding operators best
-none-is s p n = sym (first-rows s p (getD s p 0) refl [] (no-rows (getD s p 0) firsts (not-elem (getD s p 0) firsts n) operators tt))
+pub none-is : (ks : List ℕ) → T (leading ks) → (s : List ℕ) (p : ℕ) → NotIn (getD s p 0) ks → none ≡ operatorOf (chars (drop p s))
+unfolding best
+none-is ks all s p n = sym (first-rows s p (getD s p 0) refl [] (no-rows (getD s p 0) ks (not-elem (getD s p 0) ks n) operators all))

@@ -4,6 +4,7 @@ use Prim.Native.Char.{code}
 use mathlib.Core.Path.{_≡_, refl, ap, ap₂, _∙_}
 use mathlib.Core.List.{List, [], _∷_}
 use lib.ListN.{getD, drop}
+use Rattle.basics.specs.Spelling.{spelled}
 use Rattle.utf8.specs.Chars.{chars}
 use Rattle.kinds.specs.Kinds.{ADD, ADD-ASSIGN, ASSIGN, COLON, COMMA, DEC, DEFINE, EQL, INC, LBRACE, LBRACK, LOR, LPAREN, MUL, MUL-ASSIGN, NEQ, NOT, OR, OR-ASSIGN, QUO, QUO-ASSIGN, RBRACE, RBRACK, REM, REM-ASSIGN, RPAREN, SEMICOLON, SUB, SUB-ASSIGN, XOR, XOR-ASSIGN}
 use Rattle.kinds.specs.Table.{operators}
@@ -11,7 +12,7 @@ use Rattle.operators.specs.declared.Operator.{Operator}
 use Rattle.operators.specs.Longest.{op, none, operatorOf}
 use Rattle.operators.specs.Steps.{switch2, switch3, lessBy, greaterBy, andBy, periodBy}
 use Rattle.operators.proofs.Leading.{among}
-use Rattle.operators.proofs.Rows.{row, NotIn, firsts, one-is, switch2-is, switch2-last-is, switch3-is, less-is, greater-is, and-is, period-is, none-is, end-is}
+use Rattle.operators.proofs.Rows.{row, NotIn, one-is, switch2-is, switch2-last-is, switch3-is, less-is, greater-is, and-is, period-is, none-is, end-is}
 use borrow.Author.Needs.{needs}
 use Rattle.operators.proofs.scan_operator.Statement.{statement}
 use Rattle.operators.proofs.scan_operator.Tie as tie
@@ -124,6 +125,10 @@ op-requires-9 c κs = search needs
 op-requires-10 : tie.Need-op-requires-10
 op-requires-10 c κs = search needs
 
+-- the first codes of the arms, the last arm first
+abbrev firsts : List ℕ
+firsts = spelled ";}]),{[(.&><:=!^%/*|-+"
+
 -- ---- the laws of the first byte, where the next one was read
 module _ (c : tie.After-byte) where
   abbrev text : List ℕ
@@ -162,7 +167,8 @@ module _ (c : tie.After-byte) where
   period-here x t e = ap₂ periodBy (c .byte .ensures) t ∙ period-is text place e
 
   none-here : NotIn (getD text place 0) firsts → none ≡ found
-  none-here = none-is text place
+  unfolding operators
+  none-here = none-is firsts tt text place
 
 returns-2 : tie.Need-returns-2
 unfolding operators

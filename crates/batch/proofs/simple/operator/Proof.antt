@@ -54,7 +54,7 @@ returns c =
     let n : o .len ≤ 3 = rw is (operator-short (chars (drop (a .at) (a .src .now)))) in
     gives-plain (a .src .now) (a .at) (a .safe) (a .position) (a .tokens .now) (a .to) (o .kind) (a .at + o .len) false (setsMark (o .kind)) Empty 0
     (operator-reads (a .src .now) (a .at) o is (starts x))
-    (ne-eqb (o .kind) EOF (λ e. omega (arith, e, k .0))) (ne-eqb (o .kind) STRING (λ e. omega (arith, e, k .0)))
+    (ne-eqb (o .kind) EOF (k .1)) (ne-eqb (o .kind) STRING (k .2))
     (omega (arith, n, s .pre .0)) (rw (c .sets-mark .ensures)) (p .put-shown .ensures ∙ rw (add-zero (a .at)))
 
 pub operator-spec : {M : Type 1} → statement M

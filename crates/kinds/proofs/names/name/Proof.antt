@@ -6,7 +6,7 @@ use borrow.Author.Needs.{needs}
 use lib.ListN.{length, set}
 use Rattle.kinds.specs.declared.names.Padded.{Padded}
 use Rattle.kinds.specs.Names.{padded}
-use Rattle.kinds.specs.Table.{nameOf}
+use Rattle.kinds.specs.Table.{nameOf, table, specials, operators, keywords}
 use Rattle.kinds.proofs.Padding.{filled, filled-next, filled-whole, name-short, name-ends, name-goes-on}
 use Rattle.kinds.proofs.Table.{no-name}
 use Rattle.kinds.proofs.names.name.Statement.{statement}
@@ -19,6 +19,7 @@ abbrev μ-loop : tie.MeasureT-loop
 μ-loop kind bytes₀ len₀ bytes len = 11 - len
 
 returns : tie.Need-returns Inv-loop μ-loop
+unfolding table specials operators keywords
 returns c = ap padded (no-name (c .before .args .kind) (search needs) (search needs))
 
 loop-holds : tie.Need-loop-holds Inv-loop μ-loop
