@@ -32,7 +32,7 @@ use Rattle.lexer.proofs.Tokens.{identifier-said, keyword-said}
 use Rattle.batch.specs.declared.next.Next.{Next}
 use Rattle.parts.specs.Layout.{tokenNumbers}
 use Rattle.scanner.specs.Steps.{tokenBy}
-use Rattle.batch.specs.Simple.{IsKeywords, simpleToken, wordOf, Gives}
+use Rattle.batch.specs.Simple.{IsKeywords, simpleToken, wordToken, Gives}
 
 module _ (src : List ℕ) (at safe position : ℕ) (tokens : List ℕ) (to : ℕ) where
   -- none
@@ -69,7 +69,7 @@ module _ (src : List ℕ) (at safe position : ℕ) (tokens : List ℕ) (to : ℕ
   module _ (h : at < length src) (l : isLetter (getD src at 0) ≡ true) (kind end : ℕ) (e : end ≡ at + wordLen (chars (drop at src)))
       (k : kind ≡ identToken (take (end - at) (take (length src - at) (drop at src)))) (near : end < safe + 16)
       {r : Next} {tokens′ : List ℕ} (is : r ≡ record { found = true; place = end; mark = setsMark kind })
-      (w : tokens′ ≡ sets tokens to (tokenNumbers (wordOf kind position at end))) where
+      (w : tokens′ ≡ sets tokens to (tokenNumbers (wordToken kind position at end))) where
     known : eqb kind EOF ≡ false
     known = ne-eqb kind EOF (λ z. word-known _ (sym k ∙ z))
 
@@ -96,7 +96,7 @@ module _ (src : List ℕ) (at safe position : ℕ) (tokens : List ℕ) (to : ℕ
 pub gives-short : (src : List ℕ) (at safe position : ℕ) (tokens : List ℕ) (to : ℕ) → at < length src → isLetter (getD src at 0) ≡ true
     → (kind n : ℕ) → n ≡ wordLen (chars (drop at src)) → kind ≡ identToken (take n (drop at src)) → at + n < safe + 16
     → {r : Next} {tokens′ : List ℕ} → r ≡ record { found = true; place = at + n; mark = setsMark kind }
-    → tokens′ ≡ sets tokens to (tokenNumbers (wordOf kind position at (at + n)))
+    → tokens′ ≡ sets tokens to (tokenNumbers (wordToken kind position at (at + n)))
     → Gives src at safe position tokens to r tokens′
 gives-short src at safe position tokens to h l kind n e k near is w =
     let same : at + n - at ≡ n = omega arith in

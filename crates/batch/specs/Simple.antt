@@ -78,8 +78,8 @@ stringToken position start close =
     }
 
 -- a word of a kind, from a place to another
-abbrev pub wordOf : ℕ → ℕ → ℕ → ℕ → Token
-wordOf kind position at end = simpleToken kind false position at (cond (eqb kind IDENT) end at)
+abbrev pub wordToken : ℕ → ℕ → ℕ → ℕ → Token
+wordToken kind position at end = simpleToken kind false position at (cond (eqb kind IDENT) end at)
 
 -- what was given is what the lexer says of the token at a place, whatever the mark is: a plain token of ASCII characters, no line feed
 -- among them, that ends at most sixteen bytes behind the safe place

@@ -10,7 +10,7 @@ ghost use lib.Seq.{sets};
 ghost use Rattle.words.specs.Word.{isLetter};
 ghost use Rattle.kinds.specs.Table.{setsMark};
 ghost use Rattle.parts.specs.Layout.{tokenWidth, tokenNumbers};
-ghost use Rattle.batch.specs.Simple.{IsKeywords, wordOf, Gives};
+ghost use Rattle.batch.specs.Simple.{IsKeywords, wordToken, Gives};
 
 // Gives the word of a kind; only an identifier has a text.
 fn give_word(
@@ -23,7 +23,7 @@ fn give_word(
 ) -> Next
     requires { ⌜ to + tokenWidth ≤ length (now tokens) ⌝ }
     ensures { λ r. ⌜ (r ≡ record { found = true; place = end; mark = setsMark kind })
-        × (now (tokens .exit) ≡ sets (now (tokens .entry)) to (tokenNumbers (wordOf kind position at end))) ⌝ }
+        × (now (tokens .exit) ≡ sets (now (tokens .entry)) to (tokenNumbers (wordToken kind position at end))) ⌝ }
 {
     let text_end = if kind == kinds::IDENT { end } else { at };
     put_shown(kind, false, position, at, text_end, tokens, to);

@@ -19,7 +19,7 @@ use Rattle.utf8.proofs.Places.{place-fits}
 use Rattle.kinds.specs.Kinds.{ILLEGAL, COMMENT, CHAR, STRING}
 use Rattle.errors.specs.Numbers.{OPEN-RAW-STRING, NOT-ONE-CHARACTER}
 use Rattle.quotes.specs.declared.Quoted.{Quoted}
-use Rattle.quotes.specs.Body.{Body, body, quotedAt, placed as bodyPlaced}
+use Rattle.quotes.specs.Body.{Body, body, quotedAt, bodyAt}
 use Rattle.quotes.proofs.Bodies.{strays-fit, closed-sound}
 use Rattle.quotes.proofs.Local.{body-bound, body-no-lf}
 use Rattle.quotes.proofs.Shown.{straysIn, body-strays, encoded-length, encoded-differs}
@@ -29,7 +29,7 @@ use Rattle.lexer.specs.declared.lexed.Text.the-variants.{AsRead}
 use Rattle.lexer.specs.declared.lexed.Value.{Value}
 use Rattle.lexer.specs.declared.lexed.Value.the-variants.{Empty as NoValue, Interpreted}
 use Rattle.lexer.specs.declared.lexed.Lexed.{Lexed}
-use Rattle.lexer.specs.Quotes.{stringOf, lexString, charOf, lexChar}
+use Rattle.lexer.specs.Quotes.{stringOf, lexString, charLiteralOf, lexChar}
 use Rattle.lexer.specs.Making.{isNumber, isRaw}
 use Rattle.lexer.specs.Placed.{valueOf, lengthOf, said, placed}
 use Rattle.lexer.proofs.Said.{alike, exact-with-strays, text-some}
@@ -118,7 +118,7 @@ module _ (quote : ℕ) (is-quote : Quote quote) (s : List ℕ) (at : ℕ) (there
 
   -- what the code needs: the place after it, and room for one character more
   pub literal-room : (q : Quoted) → q ≡ quotedAt quote s (at + 1) → length s < 2 ^ 63 → (at ≤ q .end) × (suc (q .chars) < 2 ^ 64)
-  unfolding bodyPlaced
+  unfolding bodyAt
   literal-room q e h =
       rw e (omega arith, omega (arith, body-bound quote rest, chars-le (drop (at + 1) s), length-drop (at + 1) s, inside))
 
@@ -134,7 +134,7 @@ module _ (quote : ℕ) (is-quote : Quote quote) (s : List ℕ) (at : ℕ) (there
       → valueOf how rest ≡ value → lengthOf bytes (inner .strays) differs ≡ length value
       → differs ≡ not (same value (cond (eqb kind STRING) (take (size - cond (eqb error OPEN-RAW-STRING) 0 1) (drop (at + 1) s)) []))
       → said s at (literalAs q at kind error code how bytes differs) ≡ placed s at (lexemeAs (suc (inner .len)) kind error code true (encoded read) value)
-  unfolding said placed bodyPlaced
+  unfolding said placed bodyAt
   literal-said q e kind error code how value bytes differs k w v n d =
       let r = chars (drop at s) in
       let one = add-one (inner .len) in
@@ -181,7 +181,7 @@ module _ (s : List ℕ) (at : ℕ) (there : getD s at 0 ≡ 34) (q : Quoted) (is
   string-body = ap (λ r. stringOf (chars (drop at s)) (body 34 (drop 1 r))) (open-chars s at 34 (omega arith) (omega arith) there)
 
   pub string-open : q .closed ≡ false → said s at (literalAs q at ILLEGAL (q .error) 0 NoValue 0 false) ≡ placed s at (lexString (chars (drop at s)))
-  unfolding bodyPlaced
+  unfolding bodyAt
   string-open h =
       let k : body 34 (chars (drop (at + 1) s)) .closed ≡ false = sym (ap (λ (x : Quoted). x .closed) is) ∙ h in
       literal-bare 34 (inl refl) s at there q is ILLEGAL (q .error) 0 refl refl
@@ -189,7 +189,7 @@ module _ (s : List ℕ) (at : ℕ) (there : getD s at 0 ≡ 34) (q : Quoted) (is
 
   pub string-closed : q .closed ≡ true
       → said s at (literalAs q at STRING (q .error) 0 Interpreted (q .bytes) (q .escaped || not (eqb (q .strays) 0))) ≡ placed s at (lexString (chars (drop at s)))
-  unfolding bodyPlaced
+  unfolding bodyAt
   string-closed h =
       let b = body 34 (chars (drop (at + 1) s)) in
       let k : b .closed ≡ true = sym (ap (λ (x : Quoted). x .closed) is) ∙ h in
@@ -201,12 +201,12 @@ module _ (s : List ℕ) (at : ℕ) (there : getD s at 0 ≡ 34) (q : Quoted) (is
 
 -- ---- character literals
 module _ (s : List ℕ) (at : ℕ) (there : getD s at 0 ≡ 39) (q : Quoted) (is : q ≡ quotedAt 39 s (at + 1)) where
-  char-body : lexChar (chars (drop at s)) ≡ charOf (chars (drop at s)) (body 39 (chars (drop (at + 1) s)))
+  char-body : lexChar (chars (drop at s)) ≡ charLiteralOf (chars (drop at s)) (body 39 (chars (drop (at + 1) s)))
   unfolding lexChar
-  char-body = ap (λ r. charOf (chars (drop at s)) (body 39 (drop 1 r))) (open-chars s at 39 (omega arith) (omega arith) there)
+  char-body = ap (λ r. charLiteralOf (chars (drop at s)) (body 39 (drop 1 r))) (open-chars s at 39 (omega arith) (omega arith) there)
 
   pub char-open : q .closed ≡ false → said s at (literalAs q at ILLEGAL (q .error) 0 NoValue 0 false) ≡ placed s at (lexChar (chars (drop at s)))
-  unfolding bodyPlaced
+  unfolding bodyAt
   char-open h =
       let k : body 39 (chars (drop (at + 1) s)) .closed ≡ false = sym (ap (λ (x : Quoted). x .closed) is) ∙ h in
       literal-bare 39 (inr refl) s at there q is ILLEGAL (q .error) 0 refl refl
@@ -214,18 +214,18 @@ module _ (s : List ℕ) (at : ℕ) (there : getD s at 0 ≡ 39) (q : Quoted) (is
 
   module _ (h : q .closed ≡ true) where
     closed : body 39 (chars (drop (at + 1) s)) .closed ≡ true
-    unfolding bodyPlaced
+    unfolding bodyAt
     closed = sym (ap (λ (x : Quoted). x .closed) is) ∙ h
 
     pub char-none : (q .count ≡ 1 → ⊥) → said s at (literalAs q at ILLEGAL NOT-ONE-CHARACTER 0 NoValue 0 false) ≡ placed s at (lexChar (chars (drop at s)))
-    unfolding bodyPlaced
+    unfolding bodyAt
     char-none n =
         let m : eqb (body 39 (chars (drop (at + 1) s)) .count) 1 ≡ false = ne-eqb _ 1 (λ z. n (ap (λ (x : Quoted). x .count) is ∙ z)) in
         literal-bare 39 (inr refl) s at there q is ILLEGAL NOT-ONE-CHARACTER 0 refl refl
         ∙ ap (placed s at) (sym (char-body ∙ rw (closed, m)))
 
     pub char-one : q .count ≡ 1 → said s at (literalAs q at CHAR (q .error) (q .code) NoValue 0 false) ≡ placed s at (lexChar (chars (drop at s)))
-    unfolding bodyPlaced
+    unfolding bodyAt
     char-one n =
         let b = body 39 (chars (drop (at + 1) s)) in
         let m : b .count ≡ 1 = sym (ap (λ (x : Quoted). x .count) is) ∙ n in

@@ -32,16 +32,16 @@ use Rattle.spans.proofs.LineEnds.{ends-local}
 use Rattle.operators.specs.Longest.{operatorOf}
 use Rattle.operators.proofs.Bounds.{operator-bound, operator-local, operator-none}
 use Rattle.lexer.specs.Lexeme.{Lexeme, bare, insertedSemicolon}
-use Rattle.lexer.specs.Words.{wordOf, lexWord, lexNumber}
-use Rattle.lexer.specs.Quotes.{stringOf, lexString, charOf, lexChar, lexRaw}
+use Rattle.lexer.specs.Words.{wordLexeme, lexWord, lexNumber}
+use Rattle.lexer.specs.Quotes.{stringOf, lexString, charLiteralOf, lexChar, lexRaw}
 use Rattle.lexer.specs.Comments.{lineComment, generalComment, comment, lexComment}
 use Rattle.lexer.specs.Lex.{lexIllegal, lexOperator, lexDot, lexSlash}
 use Rattle.lexer.proofs.Known.{Known, word-known, operator-known}
 use Rattle.lexer.proofs.Fine.{Fine, fine-cond, fine-to, fine-semicolon, Reads, reads-shown, fine-reads, closed-if}
 
 -- ---- words and numbers
-word-reads : (n : ℕ) (word : List ℕ) → Reads n (wordOf n word)
-unfolding wordOf
+word-reads : (n : ℕ) (word : List ℕ) → Reads n (wordLexeme n word)
+unfolding wordLexeme
 word-reads n word =
     cond-ind (Reads n) (eqb (identToken word) IDENT) _ _ (λ _. reads-shown IDENT n word 0 true (λ e. omega arith))
     (λ _. reads-shown (identToken word) n [] 0 (setsMark (identToken word)) (word-known word))
@@ -89,7 +89,7 @@ fine-string =
 pub fine-char : (m : Bool) (c : Char) (r t : List Char) → c .code ≢ 10 → Fine m (c ∷ r) (lexChar (c ∷ r)) (lexChar (c ∷ (r ++ t)))
 unfolding lexChar
 fine-char =
-    fine-quoted 39 (λ e. omega arith) charOf
+    fine-quoted 39 (λ e. omega arith) charLiteralOf
     (λ q b. record { none = refl; len = refl; known = cond-ind Known (b .closed && eqb (b .count) 1) _ _ (λ _ e. omega arith) (λ _ e. omega arith); there = refl })
     (λ q q′ b e. rw e)
 

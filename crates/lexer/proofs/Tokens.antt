@@ -33,7 +33,7 @@ use Rattle.lexer.specs.declared.lexed.Text.the-variants.{Empty, AsRead}
 use Rattle.lexer.specs.declared.lexed.Value.the-variants.{Empty as NoValue}
 use Rattle.lexer.specs.declared.lexed.Lexed.{Lexed}
 use Rattle.lexer.specs.Lexeme.{shown, bare}
-use Rattle.lexer.specs.Words.{wordOf, lexWord}
+use Rattle.lexer.specs.Words.{wordLexeme, lexWord}
 use Rattle.lexer.specs.Lex.{lexIllegal, lexOperator}
 use Rattle.lexer.specs.Made.{madeAt, shownAt}
 use Rattle.lexer.specs.Making.{isNumber, isRaw, textWay}
@@ -92,12 +92,12 @@ word-plain : (r : List Char) → Ascii (wordLen r) r
 word-plain r =
     (run-bound word-run r, λ i h. (ascii-only isWord word-high _ (run-passes word-run r i h), run-no-feed word-run feed-no-word r i h))
 
-identifier-is : (n : ℕ) (word : List ℕ) → identToken word ≡ IDENT → shown (identToken word) n word 0 true ≡ wordOf n word
-unfolding wordOf
+identifier-is : (n : ℕ) (word : List ℕ) → identToken word ≡ IDENT → shown (identToken word) n word 0 true ≡ wordLexeme n word
+unfolding wordLexeme
 identifier-is n word i = rw i
 
-keyword-is : (n : ℕ) (word : List ℕ) → identToken word ≢ IDENT → bare (identToken word) n (setsMark (identToken word)) ≡ wordOf n word
-unfolding wordOf
+keyword-is : (n : ℕ) (word : List ℕ) → identToken word ≢ IDENT → bare (identToken word) n (setsMark (identToken word)) ≡ wordLexeme n word
+unfolding wordLexeme
 keyword-is n word i =
     let k = identToken word in sym (ap (λ t. cond t (shown IDENT n word 0 true) (bare k n (setsMark k))) (ne-eqb k IDENT i))
 

@@ -27,7 +27,7 @@ use Rattle.lexer.specs.declared.lexed.Text.{Text}
 use Rattle.lexer.specs.declared.lexed.Text.the-variants.{Number, WithoutCr, WithLf}
 use Rattle.lexer.specs.declared.lexed.Value.the-variants.{Raw}
 use Rattle.lexer.specs.Lexeme.{Lexeme, shown, bare, insertedSemicolon, raise}
-use Rattle.lexer.specs.Words.{wordOf, lexNumber}
+use Rattle.lexer.specs.Words.{wordLexeme, lexNumber}
 use Rattle.lexer.specs.Quotes.{lexString, lexChar, lexRaw}
 use Rattle.lexer.specs.Comments.{comment, lexComment}
 use Rattle.lexer.specs.Lex.{lexOperator, lexDot, lexSlash, lexBy, lexToken, lex}
@@ -46,11 +46,11 @@ unfolding charsFrom skip lexToken lex
 semicolon = refl
 
 ident : first false " x" ≡ raise 1 (shown IDENT 1 (spelled "x") 0 true)
-unfolding charsFrom firstChar octets encode skip isBlank isSpace isLetter isWord wordLen same kindNamed keywords wordOf lexBy lexToken lex
+unfolding charsFrom firstChar octets encode skip isBlank isSpace isLetter isWord wordLen same kindNamed keywords wordLexeme lexBy lexToken lex
 ident = refl
 
 keyword : first false "for" ≡ bare FOR 3 false
-unfolding charsFrom firstChar octets encode skip isBlank isSpace isLetter isWord wordLen same kindNamed keywords wordOf lexBy lexToken lex
+unfolding charsFrom firstChar octets encode skip isBlank isSpace isLetter isWord wordLen same kindNamed keywords wordLexeme lexBy lexToken lex
 keyword = refl
 
 define : first true ":=1" ≡ bare DEFINE 2 false

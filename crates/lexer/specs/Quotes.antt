@@ -38,11 +38,11 @@ unfoldable pub lexString : List Char → Lexeme
 lexString r = stringOf r (body (code "\"") (drop 1 r))
 
 -- a character literal that is no CHAR has no code point
-abbrev pub charOf : List Char → Body → Lexeme
-charOf r b = literalOf r b (charKind b) (charError b) (cond (eqb (charKind b) CHAR) (b .code) 0) []
+abbrev pub charLiteralOf : List Char → Body → Lexeme
+charLiteralOf r b = literalOf r b (charKind b) (charError b) (cond (eqb (charKind b) CHAR) (b .code) 0) []
 
 unfoldable pub lexChar : List Char → Lexeme
-lexChar r = charOf r (body (code "'") (drop 1 r))
+lexChar r = charLiteralOf r (body (code "'") (drop 1 r))
 
 -- "Raw strings drop CR from text and value; an unclosed one is still a STRING."
 abbrev pub rawOf : List Char → Span → Lexeme

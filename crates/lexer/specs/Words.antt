@@ -14,11 +14,11 @@ use Rattle.numbers.specs.Spelling.{numberText}
 use Rattle.lexer.specs.Lexeme.{Lexeme, shown, bare}
 
 -- "one of the 25 keywords, else IDENT"
-unfoldable pub wordOf : ℕ → List ℕ → Lexeme
-wordOf len word = cond (eqb (identToken word) IDENT) (shown IDENT len word 0 true) (bare (identToken word) len (setsMark (identToken word)))
+unfoldable pub wordLexeme : ℕ → List ℕ → Lexeme
+wordLexeme len word = cond (eqb (identToken word) IDENT) (shown IDENT len word 0 true) (bare (identToken word) len (setsMark (identToken word)))
 
 abbrev pub lexWord : List Char → Lexeme
-lexWord r = wordOf (wordLen r) (encoded (take (wordLen r) r))
+lexWord r = wordLexeme (wordLen r) (encoded (take (wordLen r) r))
 
 unfoldable pub lexNumber : List Char → Lexeme
 lexNumber r =

@@ -21,7 +21,7 @@ use Rattle.numbers.specs.declared.Spelling.{Spelling}
 use Rattle.numbers.specs.declared.Spelling.the-variants.{AsRead, LowerPrefix, OctalPrefix, LowerExponent}
 use Rattle.numbers.specs.Run.{Run, stop, more, digitRun, strictRun}
 use Rattle.numbers.proofs.Runs.{digit-from}
-use Rattle.numbers.specs.Number.{Numeral, after, illegal, good, exponentDigits, exponent, finish, fraction, decimalRest, decimal, prefixed, bareZero, leadingZero, withoutI, number}
+use Rattle.numbers.specs.Number.{Numeral, afterChars, illegal, good, exponentDigits, exponent, finish, fraction, decimalRest, decimal, prefixed, bareZero, leadingZero, withoutI, number}
 
 -- ---- runs of digits
 RunLocal : (List Char → Run) → List Char → List Char → Type 0
@@ -72,10 +72,10 @@ by-test r t p false a b c d e f g = let h = g refl in (rw e (h .0), h .1)
 
 -- n characters on
 on : (n : ℕ) (f : List Char → Numeral) → Locally f → (r t : List Char) → Ends r → n < length r
-    → (after n (f (drop n (r ++ t))) ≡ after n (f (drop n r))) × (after n (f (drop n r)) .len < length r)
+    → (afterChars n (f (drop n (r ++ t))) ≡ afterChars n (f (drop n r))) × (afterChars n (f (drop n r)) .len < length r)
 on n f l r t h k =
     let q = l (drop n r) t (ends-drop n r k h) in
-    (rw (drop-append-le n r t (omega arith)) (ap (after n) (q .0)), omega (arith, q .1, length-drop n r))
+    (rw (drop-append-le n r t (omega arith)) (ap (afterChars n) (q .0)), omega (arith, q .1, length-drop n r))
 
 next-same : (r t : List Char) → Ends r → peek (r ++ t) ≡ peek r
 next-same r t h = peek-append 0 r t (ends-some r h)
@@ -152,7 +152,7 @@ module _ (r t : List Char) (h : Ends r) (k : 1 < length r) where
   letter-test x = ap (λ y. eqb y x) (peek-append 1 r t k)
 
   letter-local : (x base error : ℕ) (sp : Spelling) → (x ≡ code "\n" → ⊥) → base ≤ 16 → eqb (peek (drop 1 r)) x ≡ true
-      → (after 2 (prefixed base error sp (drop 2 (r ++ t))) ≡ after 2 (prefixed base error sp (drop 2 r))) × (after 2 (prefixed base error sp (drop 2 r)) .len < length r)
+      → (afterChars 2 (prefixed base error sp (drop 2 (r ++ t))) ≡ afterChars 2 (prefixed base error sp (drop 2 r))) × (afterChars 2 (prefixed base error sp (drop 2 r)) .len < length r)
   letter-local x base error sp n b e =
       let m = more-behind (drop 1 r) x (ends-drop 1 r k h) e n in
       on 2 (prefixed base error sp) (prefixed-local base error sp b) r t h (omega (arith, m, length-drop 1 r))

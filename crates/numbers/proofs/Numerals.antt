@@ -20,11 +20,11 @@ use Rattle.digits.specs.Digit.{isDecimal}
 use Rattle.numbers.specs.declared.Spelling.{Spelling}
 use Rattle.numbers.specs.declared.Spelling.the-variants.{AsRead, OctalPrefix, LowerExponent}
 use Rattle.numbers.specs.Run.{Run, digitRun, strictRun}
-use Rattle.numbers.specs.Number.{Numeral, after, exponentDigits, exponent, finish, fraction, decimalRest, decimal, prefixedDigits, prefixed, bareZero, zeroBy, leadingZero, withoutI, numberAt}
+use Rattle.numbers.specs.Number.{Numeral, afterChars, exponentDigits, exponent, finish, fraction, decimalRest, decimal, prefixedDigits, prefixed, bareZero, zeroBy, leadingZero, withoutI, numberAt}
 use Rattle.numbers.proofs.Runs.{run-place, strict-place, next-place}
 
 -- n characters on
-at-after : (at n : ℕ) (x : Numeral) → numberAt at (after n x) ≡ numberAt (at + n) x
+at-after : (at n : ℕ) (x : Numeral) → numberAt at (afterChars n x) ≡ numberAt (at + n) x
 at-after at n x = rw (← add-assoc at n (x .len))
 
 pub digit-next : (s : List ℕ) (p : ℕ) → isDecimal (peek (chars (drop p s))) ≡ isDecimal (getD s p 0)
@@ -173,7 +173,7 @@ module _ (s : List ℕ) (at : ℕ) where
 
     -- two characters on
     pub zero-prefix : (x : ℕ) → getD s (at + 1) 0 ≡ x → 0 < x → x < 0x80 → (base error : ℕ) (sp : Spelling)
-        → numberAt at (after 2 (prefixed base error sp (drop 2 (chars (drop at s))))) ≡ numberAt (at + 2) (prefixed base error sp (chars (drop (at + 2) s)))
+        → numberAt at (afterChars 2 (prefixed base error sp (drop 2 (chars (drop at s))))) ≡ numberAt (at + 2) (prefixed base error sp (chars (drop (at + 2) s)))
     zero-prefix x e l h base error sp =
         let p : drop 2 (chars (drop at s)) ≡ chars (drop (at + 2) s) =
         sym (drop-drop 1 1 (chars (drop at s))) ∙ ap (drop 1) first-place ∙ next-place s (at + 1) x e l h ∙ rw (add-assoc at 1 1) in

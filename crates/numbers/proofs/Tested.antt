@@ -23,7 +23,7 @@ use Rattle.digits.specs.Digit.{digitVal, isDecimal}
 use Rattle.numbers.specs.declared.Spelling.{Spelling}
 use Rattle.numbers.specs.declared.Spelling.the-variants.{AsRead, LowerPrefix, OctalPrefix, LowerExponent}
 use Rattle.numbers.specs.Run.{digitRun, strictRun}
-use Rattle.numbers.specs.Number.{Numeral, after, exponentDigits, exponent, finish, fraction, decimalRest, decimal, prefixed, bareZero, leadingZero, withoutI, number}
+use Rattle.numbers.specs.Number.{Numeral, afterChars, exponentDigits, exponent, finish, fraction, decimalRest, decimal, prefixed, bareZero, leadingZero, withoutI, number}
 use Rattle.numbers.proofs.Runs.{Plain, plain-none, plain-more, plain-within, run-plain, strict-plain}
 
 -- the kinds that a number may have
@@ -90,22 +90,22 @@ module _ (r : List Char) where
       record { plain = plain-add n m r (b .plain) f; spelled = spelled-on sp r n m (b .spelled); some = λ h. omega (arith, b .some h) }
 
   -- what follows m characters more
-  on : (n m : ℕ) (f : List Char → Numeral) → Read (after (n + m) (f (drop (n + m) r))) → Read (after n (after m (f (drop m (drop n r)))))
+  on : (n m : ℕ) (f : List Char → Numeral) → Read (afterChars (n + m) (f (drop (n + m) r))) → Read (afterChars n (afterChars m (f (drop m (drop n r)))))
   on n m f h = rw (drop-drop m n r, ← add-assoc n m (f (drop (n + m) r) .len)) h
 
   -- ---- an exponent
   module _ (sp : Spelling) where
-    digits-read : (n : ℕ) → Begun sp n → Read (after n (exponentDigits sp (strictRun 10 (drop n r))))
+    digits-read : (n : ℕ) → Begun sp n → Read (afterChars n (exponentDigits sp (strictRun 10 (drop n r))))
     digits-read n b =
         let d = strictRun 10 (drop n r) in
         let o = more sp n (d .len) b (strict-plain 10 (lit≤ tt) (drop n r)) in
-        cond-ind (λ x. Read (after n x)) (d .misplaced) _ _ (λ _. (o, tt))
-        (λ _. cond-ind (λ x. Read (after n x)) (eqb (d .len) 0) _ _ (λ _. (more sp n 0 b (plain-none (drop n r)), tt)) (λ _. (o, tt)))
+        cond-ind (λ x. Read (afterChars n x)) (d .misplaced) _ _ (λ _. (o, tt))
+        (λ _. cond-ind (λ x. Read (afterChars n x)) (eqb (d .len) 0) _ _ (λ _. (more sp n 0 b (plain-none (drop n r)), tt)) (λ _. (o, tt)))
 
-    exponent-read : (n : ℕ) → Begun sp n → Read (after n (exponent sp (drop n r)))
+    exponent-read : (n : ℕ) → Begun sp n → Read (afterChars n (exponent sp (drop n r)))
     unfolding exponent
     exponent-read n b =
-        cond-ind (λ x. Read (after n x)) (eqb (peek (drop n r)) (code "+") || eqb (peek (drop n r)) (code "-")) _ _
+        cond-ind (λ x. Read (afterChars n x)) (eqb (peek (drop n r)) (code "+") || eqb (peek (drop n r)) (code "-")) _ _
         (λ e. on n 1 (λ q. exponentDigits sp (strictRun 10 q)) (digits-read (n + 1) (more sp n 1 b (signed e)))) (λ _. digits-read n b)
       where
         signed : eqb (peek (drop n r)) (code "+") || eqb (peek (drop n r)) (code "-") ≡ true → Plain 1 (drop n r)
@@ -114,12 +114,12 @@ module _ (r : List Char) where
             (either (eqb (peek (drop n r)) (code "+")))
 
   -- ---- the rest of a decimal number
-  finish-read : (kind : ℕ) → T (isNumeric kind) → (n : ℕ) → Begun AsRead n → Read (after n (finish kind (drop n r)))
+  finish-read : (kind : ℕ) → T (isNumeric kind) → (n : ℕ) → Begun AsRead n → Read (afterChars n (finish kind (drop n r)))
   unfolding finish
   finish-read kind k n b =
-      cond-ind (λ x. Read (after n x)) (eqb (peek (drop n r)) (code "e")) _ _
+      cond-ind (λ x. Read (afterChars n x)) (eqb (peek (drop n r)) (code "e")) _ _
       (λ e. on n 1 (exponent AsRead) (exponent-read AsRead (n + 1) (more AsRead n 1 b (plain-one (drop n r) (code "e") (lit< tt) (lit< tt) (λ z. omega arith) e))))
-      (λ _. cond-ind (λ x. Read (after n x)) (eqb (peek (drop n r)) (code "E")) _ _ (λ e. on n 1 (exponent LowerExponent) (exponent-read LowerExponent (n + 1) (upper e)))
+      (λ _. cond-ind (λ x. Read (afterChars n x)) (eqb (peek (drop n r)) (code "E")) _ _ (λ e. on n 1 (exponent LowerExponent) (exponent-read LowerExponent (n + 1) (upper e)))
       (λ _. (more AsRead n 0 b (plain-none (drop n r)), k)))
     where
       upper : eqb (peek (drop n r)) (code "E") ≡ true → Begun LowerExponent (n + 1)
@@ -127,31 +127,31 @@ module _ (r : List Char) where
           let o = more AsRead n 1 b (plain-one (drop n r) (code "E") (lit< tt) (lit< tt) (λ z. omega arith) e) in
           record { plain = o .plain; spelled = (n, omega arith, sym (peek-at n r) ∙ eqb-true _ _ e); some = o .some }
 
-  fraction-read : (n : ℕ) → Begun AsRead n → Read (after n (fraction (drop n r)))
+  fraction-read : (n : ℕ) → Begun AsRead n → Read (afterChars n (fraction (drop n r)))
   unfolding fraction
   fraction-read n b =
       let d = strictRun 10 (drop n r) in
       let o = more AsRead n (d .len) b (strict-plain 10 (lit≤ tt) (drop n r)) in
-      cond-ind (λ x. Read (after n x)) (d .misplaced) _ _ (λ _. (o, tt))
+      cond-ind (λ x. Read (afterChars n x)) (d .misplaced) _ _ (λ _. (o, tt))
       (λ _. on n (d .len) (finish FLOAT) (finish-read FLOAT tt (n + d .len) o))
 
-  point-read : (n : ℕ) → Begun AsRead n → eqb (peek (drop n r)) (code ".") ≡ true → Read (after n (after 1 (fraction (drop 1 (drop n r)))))
+  point-read : (n : ℕ) → Begun AsRead n → eqb (peek (drop n r)) (code ".") ≡ true → Read (afterChars n (afterChars 1 (fraction (drop 1 (drop n r)))))
   point-read n b e =
       on n 1 fraction (fraction-read (n + 1) (more AsRead n 1 b (plain-one (drop n r) (code ".") (lit< tt) (lit< tt) (λ z. omega arith) e)))
 
-  rest-read : (n : ℕ) → Begun AsRead n → Read (after n (decimalRest (drop n r)))
+  rest-read : (n : ℕ) → Begun AsRead n → Read (afterChars n (decimalRest (drop n r)))
   unfolding decimalRest
   rest-read n b =
-      cond-ind (λ x. Read (after n x)) (eqb (peek (drop n r)) (code ".")) _ _ (point-read n b) (λ _. finish-read INT tt n b)
+      cond-ind (λ x. Read (afterChars n x)) (eqb (peek (drop n r)) (code ".")) _ _ (point-read n b) (λ _. finish-read INT tt n b)
 
   -- ---- a number with a prefix
-  prefixed-read : (base error : ℕ) (sp : Spelling) → base ≤ 16 → (n : ℕ) → Begun sp n → Read (after n (prefixed base error sp (drop n r)))
+  prefixed-read : (base error : ℕ) (sp : Spelling) → base ≤ 16 → (n : ℕ) → Begun sp n → Read (afterChars n (prefixed base error sp (drop n r)))
   unfolding prefixed
   prefixed-read base error sp h n b =
       let d = digitRun base false (drop n r) in
       let o = more sp n (d .len) b (run-plain base h false (drop n r)) in
-      cond-ind (λ x. Read (after n x)) (d .misplaced) _ _ (λ _. (o, tt))
-      (λ _. cond-ind (λ x. Read (after n x)) (eqb (d .len) 0 || (leb base 8 && isDecimal (peek (drop (d .len) (drop n r))))) _ _ (λ _. (o, tt)) (λ _. (o, tt)))
+      cond-ind (λ x. Read (afterChars n x)) (d .misplaced) _ _ (λ _. (o, tt))
+      (λ _. cond-ind (λ x. Read (afterChars n x)) (eqb (d .len) 0 || (leb base 8 && isDecimal (peek (drop (d .len) (drop n r))))) _ _ (λ _. (o, tt)) (λ _. (o, tt)))
 
   -- ---- from the first character on, which is no point
   module _ (no-point : eqb (peek r) (code ".") ≡ false) where
@@ -173,7 +173,7 @@ module _ (r : List Char) where
           (λ _. prefixed-read 8 BAD-OCTAL OctalPrefix (lit≤ tt) 1 (record { plain = first; spelled = lit≤ tt; some = λ _. lit< tt })) (λ _. decimal-read)
 
       letter-read : (x base error : ℕ) (sp : Spelling) → 0 < x → x < 0x80 → x ≢ code "\n" → base ≤ 16 → (getD r 1 ended .code ≡ x → Spelled sp r 2) → eqb (peek (drop 1 r)) x ≡ true
-          → Read (after 2 (prefixed base error sp (drop 2 r)))
+          → Read (afterChars 2 (prefixed base error sp (drop 2 r)))
       letter-read x base error sp l h k b s e =
           prefixed-read base error sp b 2 (record { plain = plain-add 1 1 r first (plain-one (drop 1 r) x l h k e); spelled = s (sym (peek-at 1 r) ∙ eqb-true _ _ e); some = λ _. lit< tt })
 

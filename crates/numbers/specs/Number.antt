@@ -30,8 +30,8 @@ abbrev pub illegal : ℕ → ℕ → Spelling → Numeral
 illegal error len s = record { kind = ILLEGAL; len = len; error = error; spelling = s }
 
 -- n characters before
-abbrev pub after : ℕ → Numeral → Numeral
-after n x = record { kind = x .kind; len = n + x .len; error = x .error; spelling = x .spelling }
+abbrev pub afterChars : ℕ → Numeral → Numeral
+afterChars n x = record { kind = x .kind; len = n + x .len; error = x .error; spelling = x .spelling }
 
 -- the digits of an exponent
 abbrev pub exponentDigits : Spelling → Run → Numeral
@@ -40,30 +40,30 @@ exponentDigits s d = cond (d .misplaced) (illegal MISPLACED-UNDERSCORE (d .len) 
 -- after the e: a sign, if there is one, and digits
 unfoldable pub exponent : Spelling → List Char → Numeral
 exponent s r =
-    cond (eqb (peek r) (code "+") || eqb (peek r) (code "-")) (after 1 (exponentDigits s (strictRun 10 (drop 1 r))))
+    cond (eqb (peek r) (code "+") || eqb (peek r) (code "-")) (afterChars 1 (exponentDigits s (strictRun 10 (drop 1 r))))
     (exponentDigits s (strictRun 10 r))
 
 -- after the digits: an exponent, whose e is written lower case, or the number ends here
 unfoldable pub finish : ℕ → List Char → Numeral
 finish kind r =
-    cond (eqb (peek r) (code "e")) (after 1 (exponent AsRead (drop 1 r)))
-    (cond (eqb (peek r) (code "E")) (after 1 (exponent LowerExponent (drop 1 r))) (good kind 0 AsRead))
+    cond (eqb (peek r) (code "e")) (afterChars 1 (exponent AsRead (drop 1 r)))
+    (cond (eqb (peek r) (code "E")) (afterChars 1 (exponent LowerExponent (drop 1 r))) (good kind 0 AsRead))
 
 -- after the point
 unfoldable pub fraction : List Char → Numeral
 fraction r =
     cond (strictRun 10 r .misplaced) (illegal MISPLACED-UNDERSCORE (strictRun 10 r .len) AsRead)
-    (after (strictRun 10 r .len) (finish FLOAT (drop (strictRun 10 r .len) r)))
+    (afterChars (strictRun 10 r .len) (finish FLOAT (drop (strictRun 10 r .len) r)))
 
 -- after the digits of a decimal number: a point and a fraction, an exponent, or nothing
 unfoldable pub decimalRest : List Char → Numeral
-decimalRest r = cond (eqb (peek r) (code ".")) (after 1 (fraction (drop 1 r))) (finish INT r)
+decimalRest r = cond (eqb (peek r) (code ".")) (afterChars 1 (fraction (drop 1 r))) (finish INT r)
 
 -- a decimal number
 unfoldable pub decimal : List Char → Numeral
 decimal r =
     cond (digitRun 10 false r .misplaced) (illegal MISPLACED-UNDERSCORE (digitRun 10 false r .len) AsRead)
-    (after (digitRun 10 false r .len) (decimalRest (drop (digitRun 10 false r .len) r)))
+    (afterChars (digitRun 10 false r .len) (decimalRest (drop (digitRun 10 false r .len) r)))
 
 -- the digits of a prefixed number, and what stands next: there is a digit, and a binary or octal number ends before no decimal one
 abbrev pub prefixedDigits : ℕ → ℕ → Spelling → Run → ℕ → Numeral
@@ -77,24 +77,24 @@ prefixed base error s r = prefixedDigits base error s (digitRun base false r) (p
 
 -- a 0 without a prefix: "A 0 followed by a digit is octal"; any other starts a decimal
 unfoldable pub bareZero : List Char → Numeral
-bareZero r = cond (isDecimal (peek (drop 1 r))) (after 1 (prefixed 8 BAD-OCTAL OctalPrefix (drop 1 r))) (decimal r)
+bareZero r = cond (isDecimal (peek (drop 1 r))) (afterChars 1 (prefixed 8 BAD-OCTAL OctalPrefix (drop 1 r))) (decimal r)
 
 -- a number that starts with 0, by the character b after it
 abbrev pub zeroBy : ℕ → List Char → Numeral
 zeroBy b r =
-    cond (eqb b (code "x")) (after 2 (prefixed 16 BAD-HEXADECIMAL AsRead (drop 2 r)))
-    (cond (eqb b (code "X")) (after 2 (prefixed 16 BAD-HEXADECIMAL LowerPrefix (drop 2 r)))
-    (cond (eqb b (code "o")) (after 2 (prefixed 8 BAD-OCTAL AsRead (drop 2 r)))
-    (cond (eqb b (code "O")) (after 2 (prefixed 8 BAD-OCTAL LowerPrefix (drop 2 r)))
-    (cond (eqb b (code "b")) (after 2 (prefixed 2 BAD-BINARY AsRead (drop 2 r)))
-    (cond (eqb b (code "B")) (after 2 (prefixed 2 BAD-BINARY LowerPrefix (drop 2 r))) (bareZero r))))))
+    cond (eqb b (code "x")) (afterChars 2 (prefixed 16 BAD-HEXADECIMAL AsRead (drop 2 r)))
+    (cond (eqb b (code "X")) (afterChars 2 (prefixed 16 BAD-HEXADECIMAL LowerPrefix (drop 2 r)))
+    (cond (eqb b (code "o")) (afterChars 2 (prefixed 8 BAD-OCTAL AsRead (drop 2 r)))
+    (cond (eqb b (code "O")) (afterChars 2 (prefixed 8 BAD-OCTAL LowerPrefix (drop 2 r)))
+    (cond (eqb b (code "b")) (afterChars 2 (prefixed 2 BAD-BINARY AsRead (drop 2 r)))
+    (cond (eqb b (code "B")) (afterChars 2 (prefixed 2 BAD-BINARY LowerPrefix (drop 2 r))) (bareZero r))))))
 
 unfoldable pub leadingZero : List Char → Numeral
 leadingZero r = zeroBy (peek (drop 1 r)) r
 
 -- a number but for an i that may follow
 unfoldable pub withoutI : List Char → Numeral
-withoutI r = cond (eqb (peek r) (code ".")) (after 1 (fraction (drop 1 r))) (cond (eqb (peek r) (code "0")) (leadingZero r) (decimal r))
+withoutI r = cond (eqb (peek r) (code ".")) (afterChars 1 (fraction (drop 1 r))) (cond (eqb (peek r) (code "0")) (leadingZero r) (decimal r))
 
 -- "A following i makes INT or FLOAT an IMAG."
 abbrev pub imaginary : Numeral → ℕ → Numeral

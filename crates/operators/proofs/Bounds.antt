@@ -18,7 +18,7 @@ use Rattle.utf8.proofs.Ends.{Ends, ends-tail, ends-some}
 use Rattle.kinds.specs.Kinds.{ILLEGAL}
 use Rattle.kinds.specs.Table.{Row, operators, specials, table, rowOf, isOperator}
 use Rattle.operators.specs.declared.Operator.{Operator}
-use Rattle.operators.specs.Longest.{begins, op, none, longest, operatorOf}
+use Rattle.operators.specs.Longest.{begins, op, noOperator, longest, operatorOf}
 
 -- ---- no longer than the text
 begins-bound : (xs : List ℕ) (r : List Char) → begins xs r ≡ true → length xs ≤ length r
@@ -28,7 +28,7 @@ begins-bound (x ∷ xs) [] e = absurd (false≢true e)
 begins-bound (x ∷ xs) (c ∷ r) e = omega (arith, begins-bound xs r (and-split (eqb (c .code) x) (begins xs r) e .1))
 
 -- what holds of no operator, and of each row that the characters begin with, holds of the longest; f is a test that the rows pass
-pub longest-ind : (P : Operator → Type 0) (f : Row → Bool) (r : List Char) → P none
+pub longest-ind : (P : Operator → Type 0) (f : Row → Bool) (r : List Char) → P noOperator
     → ((row : Row) → T (f row) → begins (row .name) r ≡ true → P (op (row .kind) (length (row .name)))) → (rows : List Row) → T (each f rows) → P (longest rows r)
 unfolding longest
 longest-ind P f r base one =

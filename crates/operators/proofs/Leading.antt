@@ -16,11 +16,11 @@ use Rattle.utf8.proofs.First.{chars-at, chars-end, chars-ascii}
 use Rattle.utf8.proofs.Places.{code-there}
 use Rattle.kinds.specs.Table.{Row, operators}
 use Rattle.operators.specs.declared.Operator.{Operator}
-use Rattle.operators.specs.Longest.{begins, op, none, longer, longest, operatorOf}
+use Rattle.operators.specs.Longest.{begins, op, noOperator, longer, longest, operatorOf}
 
 -- the longest of the rows whose spelling passes a test
 unfoldable pub best : (List ℕ → Bool) → List Row → Operator
-best f [] = none
+best f [] = noOperator
 best f (row ∷ rows) = cond (f (row .name)) (longer (op (row .kind) (length (row .name))) (best f rows)) (best f rows)
 
 -- ---- a spelling in ASCII, by the bytes

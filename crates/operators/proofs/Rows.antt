@@ -15,7 +15,7 @@ use Rattle.utf8.proofs.First.{chars-end}
 use Rattle.kinds.specs.Kinds.{LSS, LEQ, SHL, SHL-ASSIGN, ARROW, AND, AND-ASSIGN, AND-NOT, AND-NOT-ASSIGN, LAND, GTR, GEQ, SHR, SHR-ASSIGN, PERIOD, ELLIPSIS}
 use Rattle.kinds.specs.Table.{Row, operators}
 use Rattle.kinds.specs.Table as table
-use Rattle.operators.specs.Longest.{begins, op, none, longest, operatorOf}
+use Rattle.operators.specs.Longest.{begins, op, noOperator, longest, operatorOf}
 use Rattle.operators.specs.Steps.{switch2, switch3, switch4, lessBy, greaterBy, andBy, periodBy}
 use Rattle.operators.proofs.Leading.{best, starts, leads, among, best-among, table-bytes}
 
@@ -126,7 +126,7 @@ module _ (s : List ℕ) (p a : ℕ) (e : getD s p 0 ≡ a) where
       → switch3 (getD s (p + 1) 0) k l x m ≡ operatorOf (chars (drop p s))
   switch3-is k l m x w = sym (first-rows _ w ∙ pick3 (λ n. starts n s p) k l m a (code "=") x _ _ starts-one (starts-two (code "=")) (starts-two x))
 
-nothing : none ≡ longest operators []
+nothing : noOperator ≡ longest operators []
 unfolding operators longest begins
 nothing = refl
 
@@ -161,7 +161,7 @@ module _ (s : List ℕ) (p : ℕ) where
   period-is e =
       sym (first-rows s p (code ".") e _ refl ∙ pick-dots (λ n. starts n s p) PERIOD ELLIPSIS (code ".") (code ".") (code ".") _ (starts-one s p (code ".") e) (starts-three s p (code ".") e (code ".") (code ".")))
 
-  pub end-is : length s ≤ p → none ≡ operatorOf (chars (drop p s))
+  pub end-is : length s ≤ p → noOperator ≡ operatorOf (chars (drop p s))
   end-is h = nothing ∙ ap (longest operators) (sym (chars-end s p h))
 
 -- ---- a byte that no spelling starts with
@@ -193,6 +193,6 @@ no-rows a ks n = each-ind (λ row. listed ks (row .name)) (λ rows. among a rows
 abbrev pub leading : List ℕ → Bool
 leading ks = each (λ row. listed ks (row .name)) operators
 
-pub none-is : (ks : List ℕ) → T (leading ks) → (s : List ℕ) (p : ℕ) → NotIn (getD s p 0) ks → none ≡ operatorOf (chars (drop p s))
+pub none-is : (ks : List ℕ) → T (leading ks) → (s : List ℕ) (p : ℕ) → NotIn (getD s p 0) ks → noOperator ≡ operatorOf (chars (drop p s))
 unfolding best
 none-is ks all s p n = sym (first-rows s p (getD s p 0) refl [] (no-rows (getD s p 0) ks (not-elem (getD s p 0) ks n) operators all))

@@ -20,8 +20,8 @@ abbrev pub op : ℕ → ℕ → Operator
 op kind len = record { kind = kind; len = len }
 
 -- no operator
-abbrev pub none : Operator
-none = op ILLEGAL 0
+abbrev pub noOperator : Operator
+noOperator = op ILLEGAL 0
 
 -- the longer of two; of two as long the first
 abbrev pub longer : Operator → Operator → Operator
@@ -29,7 +29,7 @@ longer x y = cond (leb (y .len) (x .len)) x y
 
 -- of the rows whose spelling the characters begin with, the one with the longest spelling
 unfoldable pub longest : List Row → List Char → Operator
-longest [] r = none
+longest [] r = noOperator
 longest (row ∷ rows) r = cond (begins (row .name) r) (longer (op (row .kind) (length (row .name))) (longest rows r)) (longest rows r)
 
 -- the longest operator of the table

@@ -16,7 +16,7 @@ use Rattle.digits.specs.Digit.{digitVal}
 use Rattle.quotes.specs.declared.numeral.Numeral.{Numeral}
 use Rattle.quotes.specs.Answers.{Meaning, character, noCharacter, Escape, bytesOf}
 use Rattle.quotes.specs.Numeral.{numeral}
-use Rattle.quotes.specs.Escape.{letter, following, byteOf, codeOf, octalEscape, hexEscape, escapeOf}
+use Rattle.quotes.specs.Escape.{letter, following, byteOf, codePointOf, octalEscape, hexEscape, escapeOf}
 use Rattle.quotes.specs.Body.{Body, plain, escape, bodyFrom, body}
 
 pub body-skip : (quote k : ℕ) (r : List Char) → bodyFrom quote k r ≡ body quote (drop k r)
@@ -114,7 +114,7 @@ hex-bytes : (first : ℕ) (r : List Char) → Twice (hexEscape first r)
 unfolding hexEscape
 hex-bytes first r =
     cond-ind Twice (eqb (following first) 0) _ _ (λ _. lit≤ tt)
-    (λ _. omega (arith, given-most (cond (eqb first 120) (byteOf (numeral 16 (following first) 0 r)) (codeOf (numeral 16 (following first) 0 r)))))
+    (λ _. omega (arith, given-most (cond (eqb first 120) (byteOf (numeral 16 (following first) 0 r)) (codePointOf (numeral 16 (following first) 0 r)))))
 
 escape-bytes : (quote : ℕ) (r : List Char) → Twice (escapeOf quote r)
 unfolding escapeOf octalEscape

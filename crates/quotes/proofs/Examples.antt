@@ -10,8 +10,8 @@ use Rattle.kinds.specs.Kinds.{ILLEGAL}
 use Rattle.errors.specs.Numbers.{OPEN-QUOTE, UNKNOWN-ESCAPE, CUT-ESCAPE, BAD-ESCAPE, NO-CODE-POINT, NOT-ONE-CHARACTER}
 use Rattle.digits.specs.Digit.{digitVal}
 use Rattle.quotes.specs.Numeral.{numeral}
-use Rattle.quotes.specs.Escape.{letter, byteOf, codeOf, octalEscape, following, hexEscape, escapeOf}
-use Rattle.quotes.specs.Body.{Body, bodyFrom, body, placed, quotedAt}
+use Rattle.quotes.specs.Escape.{letter, byteOf, codePointOf, octalEscape, following, hexEscape, escapeOf}
+use Rattle.quotes.specs.Body.{Body, bodyFrom, body, bodyAt, quotedAt}
 use Rattle.quotes.specs.Literal.{doubleQuote, singleQuote, charKind, charError}
 
 -- a string's body and a character literal's, from after the opening quote
@@ -40,5 +40,5 @@ pub examples :
     × (charError (character (spelled "ab")) ≡ OPEN-QUOTE)
     × (string (spelled "\\u00e9\\n\"") .value ≡ 0xC3 ∷ 0xA9 ∷ code "\n" ∷ [])
     × (quotedAt doubleQuote (code "x" ∷ 0xFF ∷ doubleQuote ∷ []) 0 ≡ record { end = 3; chars = 3; closed = true; error = 0; count = 2; code = code "x"; escaped = false; strays = 1; bytes = 2 })
-unfolding charsFrom firstChar octets encode digitVal numeral letter byteOf codeOf octalEscape following hexEscape escapeOf bodyFrom placed
+unfolding charsFrom firstChar octets encode digitVal numeral letter byteOf codePointOf octalEscape following hexEscape escapeOf bodyFrom bodyAt
 examples = (refl, refl, refl, refl, refl, refl, refl, refl, refl, refl, refl, refl, refl, refl)

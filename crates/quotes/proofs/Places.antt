@@ -20,7 +20,7 @@ use Rattle.errors.specs.Numbers.{OPEN-QUOTE}
 use Rattle.quotes.specs.declared.Quoted.{Quoted}
 use Rattle.quotes.specs.Answers.{character, noCharacter, Escape, bytesOf}
 use Rattle.quotes.specs.Escape.{escapeOf}
-use Rattle.quotes.specs.Body.{Body, ends, plain, escape, bodyFrom, body, placed, quotedAt}
+use Rattle.quotes.specs.Body.{Body, ends, plain, escape, bodyFrom, body, bodyAt, quotedAt}
 use Rattle.quotes.specs.Steps.{nothing, added, escapePiece, charPiece, plainPiece, stopped}
 use Rattle.quotes.proofs.Reading.{escape-rest, at-quote, at-lf, at-slash, at-plain}
 use Rattle.quotes.proofs.Bounds.{Fresh}
@@ -50,15 +50,15 @@ joined-start at x = rw (zero-add (x .chars), zero-add (x .count), zero-add (x .s
 
 -- ---- the end
 pub joined-ends : (q : Quoted) (p n end : ℕ) (closed : Bool) (error : ℕ) (r : List Char) → Fresh q → p + widths (take n r) ≡ end
-    → stopped q end n closed error ≡ joined q (placed p r (ends n closed error))
-unfolding stopped joined placed
+    → stopped q end n closed error ≡ joined q (bodyAt p r (ends n closed error))
+unfolding stopped joined bodyAt
 joined-ends q p n end closed error r f e = rw (e, f, or-false (q .escaped), add-zero (q .count), add-zero (q .strays), add-zero (q .bytes))
 
 -- ---- one character more
 module _ (q : Quoted) (p : ℕ) (c : Char) (r : List Char) (b : Body) (fit : 2 * b .strays ≤ length (b .value)) where
   pub joined-plain : length (encode (c .code)) ≡ c .width + 2 * cond (isStray c) 1 0
-      → joined q (placed p (c ∷ r) (plain c b)) ≡ joined (added q (charPiece c)) (placed (p + c .width) r b)
-  unfolding added joined placed
+      → joined q (bodyAt p (c ∷ r) (plain c b)) ≡ joined (added q (charPiece c)) (bodyAt (p + c .width) r b)
+  unfolding added joined bodyAt
   joined-plain e =
       let st : ℕ = cond (isStray c) 1 0 in
       let e1 : p + (c .width + widths (take (b .len) r)) ≡ p + c .width + widths (take (b .len) r) = omega arith in
@@ -73,8 +73,8 @@ module _ (q : Quoted) (p : ℕ) (c : Char) (r : List Char) (b : Body) (fit : 2 *
 
 module _ (q : Quoted) (p : ℕ) (c : Char) (r : List Char) (n : ℕ) (b : Body) (fit : 2 * b .strays ≤ length (b .value)) where
   pub joined-escape : c .width ≡ 1 → widths (take n r) ≡ n → (code : ℕ) (byte : Bool)
-      → joined q (placed p (c ∷ r) (escape (suc n) (character code byte) b)) ≡ joined (added q (escapePiece (n + 1) code byte)) (placed (p + (n + 1)) (drop n r) b)
-  unfolding added joined placed
+      → joined q (bodyAt p (c ∷ r) (escape (suc n) (character code byte) b)) ≡ joined (added q (escapePiece (n + 1) code byte)) (bodyAt (p + (n + 1)) (drop n r) b)
+  unfolding added joined bodyAt
   joined-escape w e code byte =
       let v = bytesOf (character code byte) in
       let e1 : p + widths (take (suc n + b .len) (c ∷ r)) ≡ p + (n + 1) + widths (take (b .len) (drop n r)) =

@@ -14,7 +14,7 @@ use Rattle.basics.proofs.Choice.{either, cond-ind}
 use Rattle.basics.proofs.Lists.{drop-next}
 use Rattle.quotes.specs.declared.Quoted.{Quoted}
 use Rattle.quotes.specs.Body.{quotedAt}
-use Rattle.quotes.specs.Plain.{isPlain, plainLen}
+use Rattle.quotes.specs.Plain.{isPlainByte, plainLen}
 use Rattle.quotes.specs.Steps.{nothing, added, plainPiece, stopped}
 use Rattle.quotes.proofs.Places.{joined, joined-start, step-quote, step-ascii}
 
@@ -25,8 +25,8 @@ record Plain (quote b : ℕ) : Type 0 where
   no-slash : b ≡ 92 → ⊥
   low : b < 0x80
 
-plain-is : (quote b : ℕ) → isPlain quote b ≡ true → Plain quote b
-unfolding isPlain
+plain-is : (quote b : ℕ) → isPlainByte quote b ≡ true → Plain quote b
+unfolding isPlainByte
 plain-is quote b = go (eqb b quote) (eqb b 10) (eqb b 92) refl refl refl
   where
     go : (t u v : Bool) → eqb b quote ≡ t → eqb b 10 ≡ u → eqb b 92 ≡ v → cond t false (cond u false (cond v false (ltb b 0x80))) ≡ true → Plain quote b
@@ -40,7 +40,7 @@ module _ (quote : ℕ) where
   pub plain-bound : (t : List ℕ) → plainLen quote t ≤ length t
   unfolding plainLen
   plain-bound [] = omega arith
-  plain-bound (b ∷ t) = cond-ind (λ n. n ≤ suc (length t)) (isPlain quote b) _ _ (λ _. suc-le-suc (plain-bound t)) (λ _. omega arith)
+  plain-bound (b ∷ t) = cond-ind (λ n. n ≤ suc (length t)) (isPlainByte quote b) _ _ (λ _. suc-le-suc (plain-bound t)) (λ _. omega arith)
 
   module _ (s : List ℕ) (p : ℕ) where
     pub plain-over : length s ≤ p → plainLen quote (drop p s) ≡ 0
@@ -48,11 +48,11 @@ module _ (quote : ℕ) where
     plain-over h = rw (drop-of-length-le s h)
 
     module _ (h : p < length s) where
-      pub plain-next : isPlain quote (getD s p 0) ≡ true → plainLen quote (drop p s) ≡ suc (plainLen quote (drop (p + 1) s))
+      pub plain-next : isPlainByte quote (getD s p 0) ≡ true → plainLen quote (drop p s) ≡ suc (plainLen quote (drop (p + 1) s))
       unfolding plainLen
       plain-next e = rw (drop-next s p 0 h, e)
 
-      pub plain-stop : isPlain quote (getD s p 0) ≡ false → plainLen quote (drop p s) ≡ 0
+      pub plain-stop : isPlainByte quote (getD s p 0) ≡ false → plainLen quote (drop p s) ≡ 0
       unfolding plainLen
       plain-stop e = rw (drop-next s p 0 h, e)
 
@@ -88,11 +88,11 @@ module _ (quote : ℕ) (low : quote < 0x80) (s : List ℕ) (q : Quoted) where
   more code zero p m e = rw (add-zero p, add-zero (suc m))
   more code (suc n) p m e =
       elim (decLt p (length s)) [
-        | yes h ↦ go h (isPlain quote (getD s p 0)) refl (more code n (p + 1) (suc m))
+        | yes h ↦ go h (isPlainByte quote (getD s p 0)) refl (more code n (p + 1) (suc m))
         | no h ↦ absurd (omega (arith, plain-over quote s p (omega arith)))
       ]
     where
-      go : p < length s → (t : Bool) → isPlain quote (getD s p 0) ≡ t
+      go : p < length s → (t : Bool) → isPlainByte quote (getD s p 0) ≡ t
           → (n ≡ plainLen quote (drop (p + 1) s) → joined (added q (plainPiece (suc (suc m)) code)) (quotedAt quote s (p + 1)) ≡ joined (added q (plainPiece (suc (suc m) + n) code)) (quotedAt quote s (p + 1 + n)))
           → joined (added q (plainPiece (suc m) code)) (quotedAt quote s p) ≡ joined (added q (plainPiece (suc m + suc n) code)) (quotedAt quote s (p + suc n))
       go h false f ih = absurd (omega (arith, plain-stop quote s p h f))
@@ -124,7 +124,7 @@ module _ (quote : ℕ) (low : quote < 0x80) (s : List ℕ) (p : ℕ) where
   unfolding stopped
   none-closed h f = rw (add-zero p) (step-quote quote low s p (nothing p) h refl f ∙ sym (joined-start p (quotedAt quote s p)))
 
-  some-closed : (n : ℕ) → suc n ≡ plainLen quote (drop p s) → p + suc n < length s → getD s (p + suc n) 0 ≡ quote → isPlain quote (getD s p 0) ≡ true
+  some-closed : (n : ℕ) → suc n ≡ plainLen quote (drop p s) → p + suc n < length s → getD s (p + suc n) 0 ≡ quote → isPlainByte quote (getD s p 0) ≡ true
       → closedAt p (suc n) (getD s p 0) ≡ quotedAt quote s p
   unfolding stopped added
   some-closed n e h f t =
@@ -143,4 +143,4 @@ module _ (quote : ℕ) (low : quote < 0x80) (s : List ℕ) (p : ℕ) where
   run-closed zero e h f = none-closed (omega arith) (rw (add-zero p) at f)
   run-closed (suc n) e h f =
       rw (ne-eqb (suc n) 0 (λ z. omega arith))
-      (⊎-elim (some-closed n e h f) (λ t. absurd (omega (arith, e, plain-stop quote s p (omega arith) t))) (either (isPlain quote (getD s p 0))))
+      (⊎-elim (some-closed n e h f) (λ t. absurd (omega (arith, e, plain-stop quote s p (omega arith) t))) (either (isPlainByte quote (getD s p 0))))

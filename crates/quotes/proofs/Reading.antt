@@ -18,7 +18,7 @@ use Rattle.digits.specs.Digit.{digitVal}
 use Rattle.quotes.specs.declared.numeral.Numeral.{Numeral}
 use Rattle.quotes.specs.Answers.{Meaning, character, noCharacter, Escape}
 use Rattle.quotes.specs.Numeral.{numeral}
-use Rattle.quotes.specs.Escape.{letter, following, byteOf, codeOf, octalEscape, hexEscape, escapeOf}
+use Rattle.quotes.specs.Escape.{letter, following, byteOf, codePointOf, octalEscape, hexEscape, escapeOf}
 use Rattle.quotes.specs.Body.{ends, plain, escape, bodyFrom, body}
 use Rattle.quotes.proofs.Heads.{escape-widths}
 use Rattle.quotes.proofs.Bodies.{body-skip}
@@ -34,8 +34,8 @@ unfolding byteOf
 byte-small n =
     cond-ind Small (eqb (n .error) 0) _ _ (λ _. cond-ind Small (ltb 255 (n .value)) _ _ (λ _. tt) (λ e. ltb-false 255 (n .value) e)) (λ _. tt)
 
-code-small : (n : Numeral) → Small (codeOf n)
-unfolding codeOf
+code-small : (n : Numeral) → Small (codePointOf n)
+unfolding codePointOf
 code-small n =
     cond-ind Small (eqb (n .error) 0) _ _
     (λ _. cond-ind Small (ltb 0x10FFFF (n .value)) _ _ (λ _. tt) (λ _. cond-ind Small (between 0xD800 (n .value) 0xDFFF) _ _ (λ _. tt) (λ _. tt))) (λ _. tt)

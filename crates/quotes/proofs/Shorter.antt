@@ -15,7 +15,7 @@ use Rattle.digits.specs.Digit.{digitVal}
 use Rattle.quotes.specs.declared.numeral.Numeral.{Numeral}
 use Rattle.quotes.specs.Answers.{Meaning, Escape, bytesOf}
 use Rattle.quotes.specs.Numeral.{numeral}
-use Rattle.quotes.specs.Escape.{letters, letter, following, codeOf, octalEscape, hexEscape, escapeOf}
+use Rattle.quotes.specs.Escape.{letters, letter, following, codePointOf, octalEscape, hexEscape, escapeOf}
 use Rattle.quotes.proofs.Bodies.{encode-most, byte-most}
 use Rattle.quotes.proofs.EscapeLaws.{entry-ind}
 
@@ -50,8 +50,8 @@ letter-low c = entry-ind (λ row. ltb (row .1) 0x80) (λ n. n < 0x80) c (lit< tt
 abbrev Shorter : Escape → Type 0
 Shorter x = length (bytesOf (x .meaning)) ≤ x .len
 
-code-short : (n : Numeral) (m : ℕ) → (n .error ≡ 0 → 4 ≤ m) → length (bytesOf (codeOf n)) ≤ m
-unfolding codeOf
+code-short : (n : Numeral) (m : ℕ) → (n .error ≡ 0 → 4 ≤ m) → length (bytesOf (codePointOf n)) ≤ m
+unfolding codePointOf
 code-short n m f =
     cond-ind (λ (g : Meaning). length (bytesOf g) ≤ m) (eqb (n .error) 0) _ _
     (λ e. cond-ind (λ (g : Meaning). length (bytesOf g) ≤ m) (ltb 0x10FFFF (n .value)) _ _ (λ _. omega arith)

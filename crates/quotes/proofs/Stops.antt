@@ -19,7 +19,7 @@ use Rattle.swar.proofs.Numbers.{Bytes}
 use Rattle.swar.proofs.Each.{Small, lanes-same, lanes-and}
 use Rattle.swar.proofs.Marks.{apart, aparts, marks, apart-small, aparts-each, Clears, apart-clears, both-clear, marks-found}
 use Rattle.swar.proofs.Runs as runs
-use Rattle.quotes.specs.Plain.{isPlain, plainLen}
+use Rattle.quotes.specs.Plain.{isPlainByte, plainLen}
 use Rattle.quotes.specs.Steps.{stopMark}
 use Rattle.quotes.proofs.PlainRuns.{plain-next, plain-stop, plain-over}
 
@@ -51,7 +51,7 @@ module _ (quote : ℕ) (q : quote < 0x80) where
       (apart-clears quote q)
 
   found-stops : (b : ℕ) → b < 256 → cond (ltb 127 b || found b) 0x80 0 ≡ stopMark quote b
-  unfolding stopMark isPlain
+  unfolding stopMark isPlainByte
   found-stops b l =
       elim (decLt b 0x80) [
         | yes h ↦ rw (lt-ltb b 0x80 h, le-ltb 127 b (omega arith)) (ascii (eqb b 10) (eqb b 92) (eqb b quote))
@@ -80,14 +80,14 @@ module _ (quote : ℕ) (q : quote < 0x80) where
 
 -- ---- the run at a place
 module _ (quote : ℕ) (s : List ℕ) where
-  run-next : (p : ℕ) → p < length s → isPlain quote (getD s p 0) ≡ true → plainLen quote (drop p s) ≡ suc (plainLen quote (drop (suc p) s))
+  run-next : (p : ℕ) → p < length s → isPlainByte quote (getD s p 0) ≡ true → plainLen quote (drop p s) ≡ suc (plainLen quote (drop (suc p) s))
   run-next p h e = rw (plain-next quote s p h e, add-one p) refl
 
   -- as far as n bytes go
   pub run-marked : Bytes s → (n p : ℕ) → p + n ≤ length s
       → trailingZeros (8 * n) (lanes n (stopMark quote) (numberOf (take n (drop p s)))) / 8 ≡ min n (plainLen quote (drop p s))
   unfolding stopMark
-  run-marked = runs.run-marked (λ p. plainLen quote (drop p s)) (isPlain quote) s (length s) run-next (plain-stop quote s)
+  run-marked = runs.run-marked (λ p. plainLen quote (drop p s)) (isPlainByte quote) s (length s) run-next (plain-stop quote s)
 
   -- k bytes on
   pub run-skip : (k p : ℕ) → k ≤ plainLen quote (drop p s) → plainLen quote (drop p s) ≡ k + plainLen quote (drop (p + k) s)
@@ -96,6 +96,6 @@ module _ (quote : ℕ) (s : List ℕ) where
       next : (p : ℕ) → 0 < plainLen quote (drop p s) → plainLen quote (drop p s) ≡ suc (plainLen quote (drop (suc p) s))
       next p l =
           elim (decLt p (length s)) [
-            | yes h ↦ elim (either (isPlain quote (getD s p 0))) [ inl e ↦ run-next p h e | inr e ↦ absurd (omega (arith, plain-stop quote s p h e)) ]
+            | yes h ↦ elim (either (isPlainByte quote (getD s p 0))) [ inl e ↦ run-next p h e | inr e ↦ absurd (omega (arith, plain-stop quote s p h e)) ]
             | no h ↦ absurd (omega (arith, plain-over quote s p (omega arith)))
           ]

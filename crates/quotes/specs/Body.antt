@@ -75,8 +75,8 @@ abbrev pub body : ℕ → List Char → Body
 body quote r = bodyFrom quote 0 r
 
 -- a body of the characters r at a place, as the code gives it; of a stray byte's U+FFFD it counts one byte
-unfoldable pub placed : ℕ → List Char → Body → Quoted
-placed at r b =
+unfoldable pub bodyAt : ℕ → List Char → Body → Quoted
+bodyAt at r b =
     record {
       end = at + widths (take (b .len) r);
       chars = b .len;
@@ -91,4 +91,4 @@ placed at r b =
 
 -- the body at a place of a text
 abbrev pub quotedAt : ℕ → List ℕ → ℕ → Quoted
-quotedAt quote s at = placed at (chars (drop at s)) (body quote (chars (drop at s)))
+quotedAt quote s at = bodyAt at (chars (drop at s)) (body quote (chars (drop at s)))

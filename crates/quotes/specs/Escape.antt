@@ -49,8 +49,8 @@ unfoldable pub byteOf : Numeral → Meaning
 byteOf n = cond (eqb (n .error) 0) (cond (ltb 0xFF (n .value)) overRange (character (n .value) true)) (noCharacter (n .error))
 
 -- a code by its digits; a surrogate is no code point
-unfoldable pub codeOf : Numeral → Meaning
-codeOf n =
+unfoldable pub codePointOf : Numeral → Meaning
+codePointOf n =
     cond (eqb (n .error) 0)
     (cond (ltb 0x10FFFF (n .value)) overRange (cond (between 0xD800 (n .value) 0xDFFF) (noCharacter NO-CODE-POINT) (character (n .value) false)))
     (noCharacter (n .error))
@@ -73,7 +73,7 @@ hexEscape first r =
     cond (eqb (following first) 0) (unreadEscape UNKNOWN-ESCAPE)
     (record {
       len = suc (numeral 16 (following first) 0 r .len);
-      meaning = cond (eqb first (code "x")) (byteOf (numeral 16 (following first) 0 r)) (codeOf (numeral 16 (following first) 0 r));
+      meaning = cond (eqb first (code "x")) (byteOf (numeral 16 (following first) 0 r)) (codePointOf (numeral 16 (following first) 0 r));
     })
 
 -- the escape that follows a backslash in a literal with the quote given; the end of the text cuts it

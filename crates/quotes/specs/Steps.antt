@@ -9,7 +9,7 @@ use Rattle.utf8.specs.Chars.{isStray}
 use Rattle.quotes.specs.declared.Quoted.{Quoted}
 use Rattle.quotes.specs.declared.body.Piece.{Piece}
 use Rattle.quotes.specs.Answers.{Meaning, character, noCharacter, bytesOf}
-use Rattle.quotes.specs.Plain.{isPlain}
+use Rattle.quotes.specs.Plain.{isPlainByte}
 
 -- before the first character
 abbrev pub nothing : ℕ → Quoted
@@ -64,4 +64,4 @@ errorOf (noCharacter error) = error
 
 -- the mark of a byte that is no plain character, for the search by eight bytes
 unfoldable pub stopMark : ℕ → ℕ → ℕ
-stopMark quote b = cond (isPlain quote b) 0 0x80
+stopMark quote b = cond (isPlainByte quote b) 0 0x80

@@ -9,7 +9,7 @@ ghost use Rattle.swar.specs.Lanes.{lanes};
 ghost use Rattle.quotes.specs.Answers.{meaningOf};
 ghost use Rattle.quotes.specs.Body.{quotedAt};
 ghost use Rattle.quotes.specs.Literal.{doubleQuote, singleQuote};
-ghost use Rattle.quotes.specs.Plain.{isPlain, plainLen};
+ghost use Rattle.quotes.specs.Plain.{isPlainByte, plainLen};
 ghost use Rattle.quotes.specs.Steps.{stopMark, nothing, added, stopped, errorOf, escapePiece, charPiece, plainPiece};
 
 // A piece of the body: an escape, a character, or a run of characters that are written as themselves.
@@ -135,7 +135,7 @@ fn plain_piece(n: usize, b: u8) -> Piece
 
 // Is a byte an ASCII character that is written as itself?
 fn is_plain(b: u8, quote: u8) -> bool
-    ensures { λ r. ⌜ r ≡ isPlain quote b ⌝ }
+    ensures { λ r. ⌜ r ≡ isPlainByte quote b ⌝ }
 {
     if b == quote {
         return false;

@@ -7,7 +7,7 @@ ghost use mathlib.Core.Path.{_≡_};
 ghost use lib.ListN.{drop};
 ghost use Rattle.utf8.specs.Chars.{chars};
 ghost use Rattle.quotes.specs.Answers.{meaningOf, says};
-ghost use Rattle.quotes.specs.Escape.{letter, following, byteOf, codeOf, unreadEscape, singleEscape, octalEscape, hexEscape, escapeOf};
+ghost use Rattle.quotes.specs.Escape.{letter, following, byteOf, codePointOf, unreadEscape, singleEscape, octalEscape, hexEscape, escapeOf};
 
 // The error of an escape whose value is above its range: none.
 const OVER_RANGE: u8 = 0;
@@ -46,7 +46,7 @@ fn byte_of(n: Numeral) -> Given
 
 // What digits give that stand for a code.
 fn code_of(n: Numeral) -> Given
-    ensures { λ r. ⌜ meaningOf r ≡ codeOf n ⌝ }
+    ensures { λ r. ⌜ meaningOf r ≡ codePointOf n ⌝ }
 {
     let error = n.error;
     if error != 0 {

@@ -20,7 +20,7 @@ use Rattle.operators.specs.Longest.{begins, longest}
 use Rattle.numbers.specs.Run.{digitRun}
 use Rattle.numbers.specs.Number.{finish, decimalRest, decimal, prefixed, bareZero, leadingZero, withoutI, number}
 use Rattle.numbers.specs.Spelling.{numberText}
-use Rattle.lexer.specs.Words.{wordOf, lexNumber}
+use Rattle.lexer.specs.Words.{wordLexeme, lexNumber}
 use Rattle.lexer.specs.Lex.{lexOperator, lexBy, lexToken, lex}
 use Rattle.lexer.specs.Placed as Placed
 use Rattle.lines.specs.Starts.{readLines}
@@ -106,7 +106,7 @@ given : FirstEof x h₁ ending ts
     × (length (tokens x (take 4 ending) h₁) ≤ length ts)
     × (length (tokens (x ++ y) joined h) ≡ length ts + length (tokens y second h₂))
     × (0 < length (tokens y second h₂))
-unfolding same charsFrom firstChar octets encode keywords operators kindNamed digitVal isLetter isWord wordLen isSpace isBlank skip begins longest digitRun finish decimalRest decimal prefixed bareZero leadingZero withoutI number numberText wordOf lexNumber lexOperator lexBy lexToken lex Placed.placed readLines lineOf startOf columnOf inRange fitting numbers recordAt errorsOf after fresh shownOf view scanBy scanOf call play tokens recordOf
+unfolding same charsFrom firstChar octets encode keywords operators kindNamed digitVal isLetter isWord wordLen isSpace isBlank skip begins longest digitRun finish decimalRest decimal prefixed bareZero leadingZero withoutI number numberText wordLexeme lexNumber lexOperator lexBy lexToken lex Placed.placed readLines lineOf startOf columnOf inRange fitting numbers recordAt errorsOf after fresh shownOf view scanBy scanOf call play tokens recordOf
 given =
     let before : NoEof ts = (eqb-false IDENT EOF refl, (eqb-false ASSIGN EOF refl, (eqb-false INT EOF refl, (eqb-false SEMICOLON EOF refl, tt)))) in
     (record { last = seen EOF false 8 false ""; all = refl; before = before; ends = refl; shut = tt }, refl, lit≤ tt, refl, lit< tt)
@@ -137,5 +137,5 @@ pub computed :
     × (map shows (tokens (x ++ y) joined h)
     ≡ token IDENT 100 "x" ∷ token ASSIGN 102 "" ∷ token INT 104 "0o17" ∷ token SEMICOLON 107 ""
     ∷ token ILLEGAL 108 "0o" ∷ token INT 109 "8" ∷ token SEMICOLON 110 "" ∷ token EOF 110 "" ∷ [])
-unfolding same charsFrom firstChar octets encode keywords operators kindNamed digitVal isLetter isWord wordLen isSpace isBlank skip begins longest digitRun finish decimalRest decimal prefixed bareZero leadingZero withoutI number numberText wordOf lexNumber lexOperator lexBy lexToken lex Placed.placed readLines lineOf startOf columnOf inRange fitting numbers recordAt errorsOf after fresh shownOf view scanBy scanOf call play tokens recordOf
+unfolding same charsFrom firstChar octets encode keywords operators kindNamed digitVal isLetter isWord wordLen isSpace isBlank skip begins longest digitRun finish decimalRest decimal prefixed bareZero leadingZero withoutI number numberText wordLexeme lexNumber lexOperator lexBy lexToken lex Placed.placed readLines lineOf startOf columnOf inRange fitting numbers recordAt errorsOf after fresh shownOf view scanBy scanOf call play tokens recordOf
 computed = (refl, refl, refl, refl, refl)

@@ -28,7 +28,7 @@ use Rattle.reading.proofs.Runs.{run-shift}
 use Rattle.reading.proofs.Ending.{reading-path}
 use Rattle.state.specs.declared.state.State.{State}
 use Rattle.state.specs.Fits.{fits}
-use Rattle.scanner.specs.Scan.{view, startOf, toArea, tokenOf, refusalOf, After, gaveBy, unless, scanBy, scanOf}
+use Rattle.scanner.specs.Scan.{view, tokenStart, toArea, tokenOf, refusalOf, After, gaveBy, unless, scanBy, scanOf}
 use Rattle.scanner.proofs.Scans.{Held as Fitting, held}
 use Rattle.scanner.proofs.Fitting.{passes}
 use Rattle.runs.specs.Calls.{Held, call, left, Seen, seenIn, given, play, tokens}
@@ -62,7 +62,7 @@ module _ (src area : List ℕ) (h : Held) where
   x = scanned lex r
 
   abbrev start : ℕ
-  start = startOf r x
+  start = tokenStart r x
 
   abbrev p : Placed
   p = placed src start x

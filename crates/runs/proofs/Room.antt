@@ -20,7 +20,7 @@ use Rattle.reading.specs.Run.{scanned, next}
 use Rattle.state.specs.declared.state.State.{State}
 use Rattle.state.specs.Fits.{fileOf, fits}
 use Rattle.state.specs.State.{fresh}
-use Rattle.scanner.specs.Scan.{view, written, startOf, toArea, tokenOf, refusalOf, After, withError, stateOf, gaveBy, unless, scanBy, scanOf}
+use Rattle.scanner.specs.Scan.{view, written, tokenStart, toArea, tokenOf, refusalOf, After, withError, stateOf, gaveBy, unless, scanBy, scanOf}
 use Rattle.scanner.proofs.Scans.{Held as Holds}
 use Rattle.scanner.proofs.Fitting.{fits-held, held-after, passes}
 use Rattle.runs.specs.Calls.{Held, Accepted, call, left, play}
@@ -93,7 +93,7 @@ module _ (src : List ℕ) (h : Held) (f : Fit src h) where
   x = scanned lex r
 
   abbrev p : Placed
-  p = placed src (startOf r x) x
+  p = placed src (tokenStart r x) x
 
   abbrev u : Reading
   u = next lex (s .size) r
@@ -108,7 +108,7 @@ module _ (src : List ℕ) (h : Held) (f : Fit src h) where
 
   module _ (area : List ℕ) where
     abbrev gives : After
-    gives = gaveBy s p (tokenOf (s .base) (startOf r x) r p) u (h .table) (h .list) area
+    gives = gaveBy s p (tokenOf (s .base) (tokenStart r x) r p) u (h .table) (h .list) area
 
     abbrev refusal : ℕ
     refusal = refusalOf (fits s src (h .table) (h .list)) (s .size) u (length (h .table)) (roomOf (h .list)) (length (toArea p)) (length area)

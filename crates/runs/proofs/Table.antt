@@ -17,7 +17,7 @@ use Rattle.quotes.specs.Body.{bodyFrom}
 use Rattle.spans.specs.Span.{toStop, toStarSlash}
 use Rattle.spans.specs.Body.{clean}
 use Rattle.spans.specs.Line.{blankToEnd, endsLine}
-use Rattle.lexer.specs.Words.{wordOf, lexNumber}
+use Rattle.lexer.specs.Words.{wordLexeme, lexNumber}
 use Rattle.lexer.specs.Quotes.{lexString, lexChar, lexRaw}
 use Rattle.lexer.specs.Comments.{comment, lexComment}
 use Rattle.lexer.specs.Lex.{lexSlash, lexBy, lexToken, lex}
@@ -46,7 +46,7 @@ abbrev _also_ : {A B : Type 0} → A → B → A × B
 _also_ a b = (a, b)
 
 pub table-holds : TableHolds
-unfolding rows same charsFrom firstChar octets encode keywords kindNamed digitVal isLetter isWord wordLen isSpace isBlank skip digitRun finish decimalRest decimal prefixed bareZero leadingZero withoutI number numberText numeral letter byteOf octalEscape escapeOf bodyFrom toStop toStarSlash clean blankToEnd endsLine wordOf lexNumber lexString lexChar lexRaw comment lexComment lexSlash lexBy lexToken lex Placed.placed readLines lineOf startOf columnOf inRange fitting numbers recordAt errorsOf after fresh openOf shownOf view scanBy scanOf call play tokens
+unfolding rows same charsFrom firstChar octets encode keywords kindNamed digitVal isLetter isWord wordLen isSpace isBlank skip digitRun finish decimalRest decimal prefixed bareZero leadingZero withoutI number numberText numeral letter byteOf octalEscape escapeOf bodyFrom toStop toStarSlash clean blankToEnd endsLine wordLexeme lexNumber lexString lexChar lexRaw comment lexComment lexSlash lexBy lexToken lex Placed.placed readLines lineOf startOf columnOf inRange fitting numbers recordAt errorsOf after fresh openOf shownOf view scanBy scanOf call play tokens
 table-holds =
     record { accepted = record { lent = replicate 4 0; opening = refl }; gives = refl; shown = shown 1; errors = refl } also
     record { accepted = record { lent = replicate 4 0; opening = refl }; gives = refl; shown = shown 3; errors = refl } also

@@ -13,7 +13,7 @@ use Rattle.errors.specs.Errors.{roomOf}
 use Rattle.lexer.specs.Lex.{lex}
 use Rattle.lexer.specs.Placed.{placed}
 use Rattle.reading.specs.Run.{scanned, next}
-use Rattle.scanner.specs.Scan.{view, startOf, toArea}
+use Rattle.scanner.specs.Scan.{view, tokenStart, toArea}
 use Rattle.runs.specs.Calls.{Held, call, Seen, play, tokens, linesIn}
 
 -- scan i + 1 of those that gave a token gave t
@@ -25,7 +25,7 @@ abbrev pub wants : List ℕ → Held → List ℕ → ℕ
 wants src h area =
     let r = view src (h .state) (h .table) (h .list) in
     let u = next lex (h .state .size) r in
-    let p = placed src (startOf r (scanned lex r)) (scanned lex r) in
+    let p = placed src (tokenStart r (scanned lex r)) (scanned lex r) in
     cond (ltb (length (h .table)) (length (u .lines))) 7
     (cond (ltb (roomOf (h .list)) (length (u .errors))) 8
     (cond (ltb (length area) (length (toArea p))) 9 0))

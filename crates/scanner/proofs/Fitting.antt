@@ -29,7 +29,7 @@ use Rattle.reading.specs.Reading.{Reading, errorAt, after}
 use Rattle.reading.proofs.Step.{after-from-zero}
 use Rattle.state.specs.declared.state.State.{State}
 use Rattle.state.specs.Fits.{fileOf, fits}
-use Rattle.scanner.specs.Scan.{view, written, startOf, toArea, tokenOf, refusalOf, After, stateOf, withError, gaveBy, unless, scanBy, scanOf}
+use Rattle.scanner.specs.Scan.{view, written, tokenStart, toArea, tokenOf, refusalOf, After, stateOf, withError, gaveBy, unless, scanBy, scanOf}
 use Rattle.scanner.proofs.Scans.{Held, held}
 
 -- a state with all that fitting asks
@@ -133,7 +133,7 @@ module _ (src : List ℕ) (s : State) (table list area : List ℕ) (holds : fits
   x = lex (r .mark) (r .rest)
 
   abbrev p : Placed
-  p = placed src (startOf r x) x
+  p = placed src (tokenStart r x) x
 
   abbrev u : Reading
   u = after (s .size) x r
@@ -154,4 +154,4 @@ module _ (src : List ℕ) (s : State) (table list area : List ℕ) (holds : fits
   unfolding scanOf scanBy placed
   fits-after e =
       given (λ (a : After). fits (a .answer .state) src (a .table) (a .list) ≡ true) refusal
-      (gaveBy s p (tokenOf (s .base) (startOf r x) r p) u table list area) s table list area e gives-fits
+      (gaveBy s p (tokenOf (s .base) (tokenStart r x) r p) u table list area) s table list area e gives-fits

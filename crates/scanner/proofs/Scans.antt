@@ -28,7 +28,7 @@ use Rattle.lexer.specs.Placed.{Placed, placed, said}
 use Rattle.reading.specs.Reading.{Reading, errorAt, newErrors, after}
 use Rattle.state.specs.declared.state.State.{State}
 use Rattle.state.specs.Fits.{fileOf, fitsAlone, fitsTable, fitsSource, fitsList, fits}
-use Rattle.scanner.specs.Scan.{view, written, startOf, toArea, tokenOf, refusalOf, After, refusedBy, stateOf, withError, gaveBy, unless, scanBy, scanOf}
+use Rattle.scanner.specs.Scan.{view, written, tokenStart, toArea, tokenOf, refusalOf, After, refusedBy, stateOf, withError, gaveBy, unless, scanBy, scanOf}
 use Rattle.scanner.specs.Steps.{refusalBy, stateBy, tokenBy, startsFrom, Ready, leftOf, commitOf}
 use Rattle.scanner.proofs.Refusals.{passed}
 use Rattle.scanner.proofs.Pass.{raised, placed-raise, left, skipped, token, lex-raised, skipped-widths, read, taken-read, token-skipped, end-read, text-length, value-length, area-length, start-behind, end-behind, lengths-fit}
@@ -91,10 +91,10 @@ unfolding scanOf scanBy
 scan-kept src s table list area h =
     let r = view src s table list in
     let x = lex (r .mark) (r .rest) in
-    let p = placed src (startOf r x) x in
+    let p = placed src (tokenStart r x) x in
     let u = after (s .size) x r in
     unless-kept (refusalOf (fits s src table list) (s .size) u (length table) (roomOf list) (length (toArea p)) (length area))
-    (gaveBy s p (tokenOf (s .base) (startOf r x) r p) u table list area) s table list area refl h
+    (gaveBy s p (tokenOf (s .base) (tokenStart r x) r p) u table list area) s table list area refl h
 
 -- ---- a scan that fits, behind its pass
 module _ (src : List ℕ) (s : State) (table list area : List ℕ) (k : Held s src table list) (start : ℕ) (at : start ≡ s .place + skip (s .mark) (left src s start) .len) (x : Lexed) (e : said src start x ≡ placed src start (token src s start)) where
@@ -164,7 +164,7 @@ module _ (src : List ℕ) (s : State) (table list area : List ℕ) (k : Held s s
         token-mark,
       )
 
-  start-is : startOf r (raise n (token src s start)) ≡ start
+  start-is : tokenStart r (raise n (token src s start)) ≡ start
   unfolding view
   start-is =
       rw (token-skipped src s start at x e, add-zero n, skipped-widths src s start at)
@@ -180,7 +180,7 @@ module _ (src : List ℕ) (s : State) (table list area : List ℕ) (k : Held s s
       (gaveBy s q (tokenOf (s .base) st r q) v table list area)
       s table list area
 
-  scan-by : (y : Lexeme) (st : ℕ) (q : Placed) (v : Reading) → startOf r y ≡ st → placed src st y ≡ q → after (s .size) y r ≡ v
+  scan-by : (y : Lexeme) (st : ℕ) (q : Placed) (v : Reading) → tokenStart r y ≡ st → placed src st y ≡ q → after (s .size) y r ≡ v
       → scanBy y r src s table list area ≡ came st q v
   unfolding scanBy
   scan-by y st q v a b d = ap (λ (m : ℕ). came m (placed src m y) (after (s .size) y r)) a ∙ ap₂ (came st) b d

@@ -38,8 +38,8 @@ abbrev pub written : {A : Type 0} → List A → List A → List A
 written xs buffer = xs ++ drop (length xs) buffer
 
 -- the place of a token's first byte
-abbrev pub startOf : Reading → Lexeme → ℕ
-startOf s x = s .place + widths (take (x .skipped) (s .rest))
+abbrev pub tokenStart : Reading → Lexeme → ℕ
+tokenStart s x = s .place + widths (take (x .skipped) (s .rest))
 
 -- what goes to the text area: "text first, then value"
 abbrev pub toArea : Placed → List ℕ
@@ -139,7 +139,7 @@ unless (suc n) a s table list area = refusedBy (suc n) s table list area
 -- one scan, by what it reads and how far the source has been read
 unfoldable pub scanBy : Lexeme → Reading → List ℕ → State → List ℕ → List ℕ → List ℕ → After
 scanBy x r src s table list area =
-    let start = startOf r x in
+    let start = tokenStart r x in
     let p = placed src start x in
     let u = after (s .size) x r in
     unless (refusalOf (fits s src table list) (s .size) u (length table) (roomOf list) (length (toArea p)) (length area))

@@ -10,7 +10,7 @@ use Rattle.basics.specs.Between.{between}
 use Rattle.basics.proofs.Choice.{cond-ind, between-true}
 use Rattle.basics.proofs.Every.{every-below}
 use Rattle.utf8.specs.Bytes.{announced}
-use Rattle.utf8.specs.Steps.{tail, low, high, second, sequence}
+use Rattle.utf8.specs.Steps.{isTail, low, high, second, sequence}
 
 -- the length by the count of leading ones
 abbrev pub byOnes : ℕ → ℕ
@@ -91,17 +91,17 @@ unfolding sequence
 view a b c d =
     cond-ind (View a b c d) (ltb a 0x80) _ _ (λ e. one (ltb-true a 0x80 e))
     (λ _. cond-ind (View a b c d) (between 0xC2 a 0xDF) _ _
-    (λ e. cond-ind (View a b c d) (tail b) _ _
+    (λ e. cond-ind (View a b c d) (isTail b) _ _
     (λ f. let p = between-true 0xC2 a 0xDF e in let q = between-true 0x80 b 0xBF f in two (p .0) (p .1) (q .0) (q .1)) (λ _. none))
     (λ _. cond-ind (View a b c d) (between 0xE0 a 0xEF) _ _
     (λ e. cond-ind (View a b c d) (second a b) _ _
-    (λ f. cond-ind (View a b c d) (tail c) _ _
+    (λ f. cond-ind (View a b c d) (isTail c) _ _
     (λ g. let p = between-true 0xE0 a 0xEF e in let q = between-true (low a) b (high a) f in let r = between-true 0x80 c 0xBF g in
     three (p .0) (p .1) (q .0) (q .1) (r .0) (r .1)) (λ _. none)) (λ _. none))
     (λ _. cond-ind (View a b c d) (between 0xF0 a 0xF4) _ _
     (λ e. cond-ind (View a b c d) (second a b) _ _
-    (λ f. cond-ind (View a b c d) (tail c) _ _
-    (λ g. cond-ind (View a b c d) (tail d) _ _
+    (λ f. cond-ind (View a b c d) (isTail c) _ _
+    (λ g. cond-ind (View a b c d) (isTail d) _ _
     (λ h. let p = between-true 0xF0 a 0xF4 e in let q = between-true (low a) b (high a) f in let r = between-true 0x80 c 0xBF g in let s = between-true 0x80 d 0xBF h in
     four (p .0) (p .1) (q .0) (q .1) (r .0) (r .1) (s .0) (s .1)) (λ _. none)) (λ _. none)) (λ _. none)) (λ _. none))))
 
@@ -179,19 +179,19 @@ view-zero (four h k l m n o q r) p f = absurd (omega (arith, f (omega arith)))
 pub sequence-at-zero : (a b c d : ℕ) → announced a ≡ 0 → sequence a b c d ≡ 0
 sequence-at-zero a b c d e = let l = lead a .zero e in view-zero (view a b c d) (l .0) (l .1)
 
-pub sequence-at-two : (a b c d : ℕ) → announced a ≡ 2 → sequence a b c d ≡ cond (between 0xC2 a 0xDF) (cond (tail b) 2 0) 0
+pub sequence-at-two : (a b c d : ℕ) → announced a ≡ 2 → sequence a b c d ≡ cond (between 0xC2 a 0xDF) (cond (isTail b) 2 0) 0
 unfolding sequence
 sequence-at-two a b c d e =
     let l = lead a .two e in simp (le-ltb a 0x80 (omega arith), lt-leb 0xE0 a (omega arith), lt-leb 0xF0 a (omega arith))
 
-pub sequence-at-three : (a b c d : ℕ) → announced a ≡ 3 → sequence a b c d ≡ cond (second a b) (cond (tail c) 3 0) 0
+pub sequence-at-three : (a b c d : ℕ) → announced a ≡ 3 → sequence a b c d ≡ cond (second a b) (cond (isTail c) 3 0) 0
 unfolding sequence
 sequence-at-three a b c d e =
     let l = lead a .three e in
     simp (le-ltb a 0x80 (omega arith), le-leb 0xC2 a (omega arith), lt-leb a 0xDF (omega arith), le-leb 0xE0 a (omega arith), le-leb a 0xEF (omega arith))
 
 pub sequence-at-four : (a b c d : ℕ) → announced a ≡ 4
-    → sequence a b c d ≡ cond (between 0xF0 a 0xF4) (cond (second a b) (cond (tail c) (cond (tail d) 4 0) 0) 0) 0
+    → sequence a b c d ≡ cond (between 0xF0 a 0xF4) (cond (second a b) (cond (isTail c) (cond (isTail d) 4 0) 0) 0) 0
 unfolding sequence
 sequence-at-four a b c d e =
     let l = lead a .four e in

@@ -13,7 +13,7 @@ use borrow.Author.Tests.{ne-eqb}
 use Rattle.utf8.proofs.Bytes.{View, none, one, two, three, four, view, sequence-one, sequence-two, sequence-three, sequence-four}
 use Rattle.basics.specs.Between.{between}
 use Rattle.basics.proofs.Choice.{and-split, between-true, cond-ind, in-between}
-use Rattle.utf8.specs.Table.{Range, _to_, rows, fits, matched}
+use Rattle.utf8.specs.Table.{Range, _to_, rows, withinRow, matched}
 use Rattle.utf8.specs.Steps.{low, high, sequence}
 
 -- a byte within its bounds
@@ -24,30 +24,30 @@ none-of : Range
 none-of = (0 to 0)
 
 -- each byte of a text that begins with a row is within its bounds
-fits-at : (rs : List Range) (s : List ℕ) → fits rs s ≡ true → (i : ℕ) → i < length rs → In (getD rs i none-of) (getD s i 0)
+fits-at : (rs : List Range) (s : List ℕ) → withinRow rs s ≡ true → (i : ℕ) → i < length rs → In (getD rs i none-of) (getD s i 0)
 fits-at [] s e i h = absurd (not-suc-le-zero h)
 fits-at (r ∷ rs) [] e i h = absurd (false≢true e)
-fits-at (r ∷ rs) (b ∷ s) e zero h = between-true (r .least) b (r .most) (and-split (between (r .least) b (r .most)) (fits rs s) e .0)
-fits-at (r ∷ rs) (b ∷ s) e (suc i) h = fits-at rs s (and-split (between (r .least) b (r .most)) (fits rs s) e .1) i (le-of-suc-le-suc h)
+fits-at (r ∷ rs) (b ∷ s) e zero h = between-true (r .least) b (r .most) (and-split (between (r .least) b (r .most)) (withinRow rs s) e .0)
+fits-at (r ∷ rs) (b ∷ s) e (suc i) h = fits-at rs s (and-split (between (r .least) b (r .most)) (withinRow rs s) e .1) i (le-of-suc-le-suc h)
 
 -- and the other way; a byte past the end counts as 0, which is below the bounds of any second byte
-fits-one : (p : Range) (s : List ℕ) → 0 < length s → In p (getD s 0 0) → fits (p ∷ []) s ≡ true
+fits-one : (p : Range) (s : List ℕ) → 0 < length s → In p (getD s 0 0) → withinRow (p ∷ []) s ≡ true
 fits-one p [] z h = absurd (not-suc-le-zero z)
 fits-one p (a ∷ s) z h = rw (in-between (p .least) a (p .most) (h .0) (h .1))
 
-fits-two : (p q : Range) (s : List ℕ) → 0 < q .least → In p (getD s 0 0) → In q (getD s 1 0) → fits (p ∷ q ∷ []) s ≡ true
+fits-two : (p q : Range) (s : List ℕ) → 0 < q .least → In p (getD s 0 0) → In q (getD s 1 0) → withinRow (p ∷ q ∷ []) s ≡ true
 fits-two p q [] z h k = absurd (omega arith)
 fits-two p q (a ∷ []) z h k = absurd (omega arith)
 fits-two p q (a ∷ b ∷ s) z h k = rw (in-between (p .least) a (p .most) (h .0) (h .1), in-between (q .least) b (q .most) (k .0) (k .1))
 
-fits-three : (p q r : Range) (s : List ℕ) → 0 < r .least → In p (getD s 0 0) → In q (getD s 1 0) → In r (getD s 2 0) → fits (p ∷ q ∷ r ∷ []) s ≡ true
+fits-three : (p q r : Range) (s : List ℕ) → 0 < r .least → In p (getD s 0 0) → In q (getD s 1 0) → In r (getD s 2 0) → withinRow (p ∷ q ∷ r ∷ []) s ≡ true
 fits-three p q r [] z h k l = absurd (omega arith)
 fits-three p q r (a ∷ []) z h k l = absurd (omega arith)
 fits-three p q r (a ∷ b ∷ []) z h k l = absurd (omega arith)
 fits-three p q r (a ∷ b ∷ c ∷ s) z h k l =
     rw (in-between (p .least) a (p .most) (h .0) (h .1), in-between (q .least) b (q .most) (k .0) (k .1), in-between (r .least) c (r .most) (l .0) (l .1))
 
-fits-four : (p q r t : Range) (s : List ℕ) → 0 < t .least → In p (getD s 0 0) → In q (getD s 1 0) → In r (getD s 2 0) → In t (getD s 3 0) → fits (p ∷ q ∷ r ∷ t ∷ []) s ≡ true
+fits-four : (p q r t : Range) (s : List ℕ) → 0 < t .least → In p (getD s 0 0) → In q (getD s 1 0) → In r (getD s 2 0) → In t (getD s 3 0) → withinRow (p ∷ q ∷ r ∷ t ∷ []) s ≡ true
 fits-four p q r t [] z h k l m = absurd (omega arith)
 fits-four p q r t (a ∷ []) z h k l m = absurd (omega arith)
 fits-four p q r t (a ∷ b ∷ []) z h k l m = absurd (omega arith)
@@ -94,7 +94,7 @@ module _ (s : List ℕ) where
 
   -- a row of three or four bytes, by the bounds of the first two
   three-found : (p q : Range) → 0xE0 ≤ p .least → p .most ≤ 0xEF → (In p (getD s 0 0) → (low (getD s 0 0) ≤ q .least) × (q .most ≤ high (getD s 0 0)))
-      → fits (p ∷ q ∷ tl ∷ []) s ≡ true → found 3
+      → withinRow (p ∷ q ∷ tl ∷ []) s ≡ true → found 3
   three-found p q u v w e =
       let h = fits-at (p ∷ q ∷ tl ∷ []) s e 0 (lit< tt) in
       let k = fits-at (p ∷ q ∷ tl ∷ []) s e 1 (lit< tt) in
@@ -103,7 +103,7 @@ module _ (s : List ℕ) where
       sym (sequence-three (getD s 0 0) (getD s 1 0) (getD s 2 0) (getD s 3 0) (omega arith) (omega arith) (omega arith) (omega arith) (l .0) (l .1))
 
   four-found : (p q : Range) → 0xF0 ≤ p .least → p .most ≤ 0xF4 → (In p (getD s 0 0) → (low (getD s 0 0) ≤ q .least) × (q .most ≤ high (getD s 0 0)))
-      → fits (p ∷ q ∷ tl ∷ tl ∷ []) s ≡ true → found 4
+      → withinRow (p ∷ q ∷ tl ∷ tl ∷ []) s ≡ true → found 4
   four-found p q u v w e =
       let h = fits-at (p ∷ q ∷ tl ∷ tl ∷ []) s e 0 (lit< tt) in
       let k = fits-at (p ∷ q ∷ tl ∷ tl ∷ []) s e 1 (lit< tt) in
@@ -113,15 +113,15 @@ module _ (s : List ℕ) where
       sym (sequence-four (getD s 0 0) (getD s 1 0) (getD s 2 0) (getD s 3 0) (omega arith) (omega arith) (omega arith) (omega arith) (l .0) (l .1) (m .0) (m .1))
 
   none-left : {n : ℕ} → View (getD s 0 0) (getD s 1 0) (getD s 2 0) (getD s 3 0) n → 0 < length s
-      → fits (0x00 to 0x7F ∷ []) s ≡ false
-      → fits (0xC2 to 0xDF ∷ tl ∷ []) s ≡ false
-      → fits (0xE0 to 0xE0 ∷ 0xA0 to 0xBF ∷ tl ∷ []) s ≡ false
-      → fits (0xE1 to 0xEC ∷ 0x80 to 0xBF ∷ tl ∷ []) s ≡ false
-      → fits (0xED to 0xED ∷ 0x80 to 0x9F ∷ tl ∷ []) s ≡ false
-      → fits (0xEE to 0xEF ∷ 0x80 to 0xBF ∷ tl ∷ []) s ≡ false
-      → fits (0xF0 to 0xF0 ∷ 0x90 to 0xBF ∷ tl ∷ tl ∷ []) s ≡ false
-      → fits (0xF1 to 0xF3 ∷ 0x80 to 0xBF ∷ tl ∷ tl ∷ []) s ≡ false
-      → fits (0xF4 to 0xF4 ∷ 0x80 to 0x8F ∷ tl ∷ tl ∷ []) s ≡ false
+      → withinRow (0x00 to 0x7F ∷ []) s ≡ false
+      → withinRow (0xC2 to 0xDF ∷ tl ∷ []) s ≡ false
+      → withinRow (0xE0 to 0xE0 ∷ 0xA0 to 0xBF ∷ tl ∷ []) s ≡ false
+      → withinRow (0xE1 to 0xEC ∷ 0x80 to 0xBF ∷ tl ∷ []) s ≡ false
+      → withinRow (0xED to 0xED ∷ 0x80 to 0x9F ∷ tl ∷ []) s ≡ false
+      → withinRow (0xEE to 0xEF ∷ 0x80 to 0xBF ∷ tl ∷ []) s ≡ false
+      → withinRow (0xF0 to 0xF0 ∷ 0x90 to 0xBF ∷ tl ∷ tl ∷ []) s ≡ false
+      → withinRow (0xF1 to 0xF3 ∷ 0x80 to 0xBF ∷ tl ∷ tl ∷ []) s ≡ false
+      → withinRow (0xF4 to 0xF4 ∷ 0x80 to 0x8F ∷ tl ∷ tl ∷ []) s ≡ false
       → 0 ≡ n
   none-left none z f1 f2 f3 f4 f5 f6 f7 f8 f9 = refl
   none-left (one h) z f1 f2 f3 f4 f5 f6 f7 f8 f9 = absurd (false≢true (sym f1 ∙ fits-one (0x00 to 0x7F) s z (zero-le, le-of-suc-le-suc h)))
@@ -149,13 +149,13 @@ module _ (s : List ℕ) where
   -- the row that a text begins with is the one that the tests find
   pub table-says : 0 < length s → matched rows s ≡ sequence (getD s 0 0) (getD s 1 0) (getD s 2 0) (getD s 3 0)
   table-says z =
-      cond-ind found (fits (0x00 to 0x7F ∷ []) s) _ _ (λ e. let h = fits-at (0x00 to 0x7F ∷ []) s e 0 (lit< tt) in sym (sequence-one (getD s 0 0) (getD s 1 0) (getD s 2 0) (getD s 3 0) (omega arith)))
-      (λ f1. cond-ind found (fits (0xC2 to 0xDF ∷ tl ∷ []) s) _ _ (λ e. let h = fits-at (0xC2 to 0xDF ∷ tl ∷ []) s e 0 (lit< tt) in let k = fits-at (0xC2 to 0xDF ∷ tl ∷ []) s e 1 (lit< tt) in sym (sequence-two (getD s 0 0) (getD s 1 0) (getD s 2 0) (getD s 3 0) (h .0) (h .1) (k .0) (k .1)))
-      (λ f2. cond-ind found (fits (0xE0 to 0xE0 ∷ 0xA0 to 0xBF ∷ tl ∷ []) s) _ _ (λ e. three-found (0xE0 to 0xE0) (0xA0 to 0xBF) (lit≤ tt) (lit≤ tt) (λ h. (omega (arith, low-of-e0 (getD s 0 0) (omega arith)), omega (arith, high-usual (getD s 0 0) (omega arith) (omega arith)))) e)
-      (λ f3. cond-ind found (fits (0xE1 to 0xEC ∷ 0x80 to 0xBF ∷ tl ∷ []) s) _ _ (λ e. three-found (0xE1 to 0xEC) (0x80 to 0xBF) (lit≤ tt) (lit≤ tt) (λ h. (omega (arith, low-usual (getD s 0 0) (omega arith) (omega arith)), omega (arith, high-usual (getD s 0 0) (omega arith) (omega arith)))) e)
-      (λ f4. cond-ind found (fits (0xED to 0xED ∷ 0x80 to 0x9F ∷ tl ∷ []) s) _ _ (λ e. three-found (0xED to 0xED) (0x80 to 0x9F) (lit≤ tt) (lit≤ tt) (λ h. (omega (arith, low-usual (getD s 0 0) (omega arith) (omega arith)), omega (arith, high-of-ed (getD s 0 0) (omega arith)))) e)
-      (λ f5. cond-ind found (fits (0xEE to 0xEF ∷ 0x80 to 0xBF ∷ tl ∷ []) s) _ _ (λ e. three-found (0xEE to 0xEF) (0x80 to 0xBF) (lit≤ tt) (lit≤ tt) (λ h. (omega (arith, low-usual (getD s 0 0) (omega arith) (omega arith)), omega (arith, high-usual (getD s 0 0) (omega arith) (omega arith)))) e)
-      (λ f6. cond-ind found (fits (0xF0 to 0xF0 ∷ 0x90 to 0xBF ∷ tl ∷ tl ∷ []) s) _ _ (λ e. four-found (0xF0 to 0xF0) (0x90 to 0xBF) (lit≤ tt) (lit≤ tt) (λ h. (omega (arith, low-of-f0 (getD s 0 0) (omega arith)), omega (arith, high-usual (getD s 0 0) (omega arith) (omega arith)))) e)
-      (λ f7. cond-ind found (fits (0xF1 to 0xF3 ∷ 0x80 to 0xBF ∷ tl ∷ tl ∷ []) s) _ _ (λ e. four-found (0xF1 to 0xF3) (0x80 to 0xBF) (lit≤ tt) (lit≤ tt) (λ h. (omega (arith, low-usual (getD s 0 0) (omega arith) (omega arith)), omega (arith, high-usual (getD s 0 0) (omega arith) (omega arith)))) e)
-      (λ f8. cond-ind found (fits (0xF4 to 0xF4 ∷ 0x80 to 0x8F ∷ tl ∷ tl ∷ []) s) _ _ (λ e. four-found (0xF4 to 0xF4) (0x80 to 0x8F) (lit≤ tt) (lit≤ tt) (λ h. (omega (arith, low-usual (getD s 0 0) (omega arith) (omega arith)), omega (arith, high-of-f4 (getD s 0 0) (omega arith)))) e)
+      cond-ind found (withinRow (0x00 to 0x7F ∷ []) s) _ _ (λ e. let h = fits-at (0x00 to 0x7F ∷ []) s e 0 (lit< tt) in sym (sequence-one (getD s 0 0) (getD s 1 0) (getD s 2 0) (getD s 3 0) (omega arith)))
+      (λ f1. cond-ind found (withinRow (0xC2 to 0xDF ∷ tl ∷ []) s) _ _ (λ e. let h = fits-at (0xC2 to 0xDF ∷ tl ∷ []) s e 0 (lit< tt) in let k = fits-at (0xC2 to 0xDF ∷ tl ∷ []) s e 1 (lit< tt) in sym (sequence-two (getD s 0 0) (getD s 1 0) (getD s 2 0) (getD s 3 0) (h .0) (h .1) (k .0) (k .1)))
+      (λ f2. cond-ind found (withinRow (0xE0 to 0xE0 ∷ 0xA0 to 0xBF ∷ tl ∷ []) s) _ _ (λ e. three-found (0xE0 to 0xE0) (0xA0 to 0xBF) (lit≤ tt) (lit≤ tt) (λ h. (omega (arith, low-of-e0 (getD s 0 0) (omega arith)), omega (arith, high-usual (getD s 0 0) (omega arith) (omega arith)))) e)
+      (λ f3. cond-ind found (withinRow (0xE1 to 0xEC ∷ 0x80 to 0xBF ∷ tl ∷ []) s) _ _ (λ e. three-found (0xE1 to 0xEC) (0x80 to 0xBF) (lit≤ tt) (lit≤ tt) (λ h. (omega (arith, low-usual (getD s 0 0) (omega arith) (omega arith)), omega (arith, high-usual (getD s 0 0) (omega arith) (omega arith)))) e)
+      (λ f4. cond-ind found (withinRow (0xED to 0xED ∷ 0x80 to 0x9F ∷ tl ∷ []) s) _ _ (λ e. three-found (0xED to 0xED) (0x80 to 0x9F) (lit≤ tt) (lit≤ tt) (λ h. (omega (arith, low-usual (getD s 0 0) (omega arith) (omega arith)), omega (arith, high-of-ed (getD s 0 0) (omega arith)))) e)
+      (λ f5. cond-ind found (withinRow (0xEE to 0xEF ∷ 0x80 to 0xBF ∷ tl ∷ []) s) _ _ (λ e. three-found (0xEE to 0xEF) (0x80 to 0xBF) (lit≤ tt) (lit≤ tt) (λ h. (omega (arith, low-usual (getD s 0 0) (omega arith) (omega arith)), omega (arith, high-usual (getD s 0 0) (omega arith) (omega arith)))) e)
+      (λ f6. cond-ind found (withinRow (0xF0 to 0xF0 ∷ 0x90 to 0xBF ∷ tl ∷ tl ∷ []) s) _ _ (λ e. four-found (0xF0 to 0xF0) (0x90 to 0xBF) (lit≤ tt) (lit≤ tt) (λ h. (omega (arith, low-of-f0 (getD s 0 0) (omega arith)), omega (arith, high-usual (getD s 0 0) (omega arith) (omega arith)))) e)
+      (λ f7. cond-ind found (withinRow (0xF1 to 0xF3 ∷ 0x80 to 0xBF ∷ tl ∷ tl ∷ []) s) _ _ (λ e. four-found (0xF1 to 0xF3) (0x80 to 0xBF) (lit≤ tt) (lit≤ tt) (λ h. (omega (arith, low-usual (getD s 0 0) (omega arith) (omega arith)), omega (arith, high-usual (getD s 0 0) (omega arith) (omega arith)))) e)
+      (λ f8. cond-ind found (withinRow (0xF4 to 0xF4 ∷ 0x80 to 0x8F ∷ tl ∷ tl ∷ []) s) _ _ (λ e. four-found (0xF4 to 0xF4) (0x80 to 0x8F) (lit≤ tt) (lit≤ tt) (λ h. (omega (arith, low-usual (getD s 0 0) (omega arith) (omega arith)), omega (arith, high-of-f4 (getD s 0 0) (omega arith)))) e)
       (λ f9. none-left (view (getD s 0 0) (getD s 1 0) (getD s 2 0) (getD s 3 0)) z f1 f2 f3 f4 f5 f6 f7 f8 f9)))))))))

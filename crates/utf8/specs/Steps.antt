@@ -8,8 +8,8 @@ use Rattle.utf8.specs.declared.Char.{Char}
 use Rattle.utf8.specs.Chars.{charOf}
 
 -- UTF8-tail: 80-BF
-abbrev pub tail : ℕ → Bool
-tail b = between 0x80 b 0xBF
+abbrev pub isTail : ℕ → Bool
+isTail b = between 0x80 b 0xBF
 
 -- the least and the greatest second byte after a first byte
 unfoldable pub low : ℕ → ℕ
@@ -26,9 +26,9 @@ second a b = between (low a) b (high a)
 unfoldable pub sequence : ℕ → ℕ → ℕ → ℕ → ℕ
 sequence a b c d =
     cond (ltb a 0x80) 1
-    (cond (between 0xC2 a 0xDF) (cond (tail b) 2 0)
-    (cond (between 0xE0 a 0xEF) (cond (second a b) (cond (tail c) 3 0) 0)
-    (cond (between 0xF0 a 0xF4) (cond (second a b) (cond (tail c) (cond (tail d) 4 0) 0) 0) 0)))
+    (cond (between 0xC2 a 0xDF) (cond (isTail b) 2 0)
+    (cond (between 0xE0 a 0xEF) (cond (second a b) (cond (isTail c) 3 0) 0)
+    (cond (between 0xF0 a 0xF4) (cond (second a b) (cond (isTail c) (cond (isTail d) 4 0) 0) 0) 0)))
 
 -- the character that a text's first four bytes begin with; a byte past the end counts as 0, which continues nothing
 unfoldable pub decoded : ℕ → ℕ → ℕ → ℕ → Char

@@ -27,12 +27,12 @@ rows =
     ∷ []
 
 -- does a text begin with bytes within the bounds of a row
-abbrev pub fits : List Range → List ℕ → Bool
-fits [] s = true
-fits (r ∷ rs) [] = false
-fits (r ∷ rs) (b ∷ s) = between (r .least) b (r .most) && fits rs s
+abbrev pub withinRow : List Range → List ℕ → Bool
+withinRow [] s = true
+withinRow (r ∷ rs) [] = false
+withinRow (r ∷ rs) (b ∷ s) = between (r .least) b (r .most) && withinRow rs s
 
 -- the length of the first row that a text begins with; 0 where it begins with none
 abbrev pub matched : List (List Range) → List ℕ → ℕ
 matched [] s = 0
-matched (r ∷ rs) s = cond (fits r s) (length r) (matched rs s)
+matched (r ∷ rs) s = cond (withinRow r s) (length r) (matched rs s)

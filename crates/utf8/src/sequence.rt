@@ -5,7 +5,7 @@ ghost use mathlib.Core.Bool.{cond};
 ghost use lib.ListN.{getD};
 ghost use Rattle.basics.specs.Between.{between};
 ghost use Rattle.utf8.specs.Bytes.{announced};
-ghost use Rattle.utf8.specs.Steps.{tail, low, high, second, sequence, decoded};
+ghost use Rattle.utf8.specs.Steps.{isTail, low, high, second, sequence, decoded};
 ghost use Rattle.utf8.specs.Chars.{codeOf};
 
 // The length that a first byte announces by its leading one bits, 0 where it announces none.
@@ -44,7 +44,7 @@ fn choose(t: bool, n: usize) -> usize
 
 // May b stand in a character after its first byte?
 fn follows(b: u8) -> bool
-    ensures { λ r. ⌜ r ≡ tail b ⌝ }
+    ensures { λ r. ⌜ r ≡ isTail b ⌝ }
 {
     within(0x80, b, 0xBF)
 }

@@ -11,7 +11,7 @@ use Rattle.utf8.specs.Chars.{chars}
 use Rattle.errors.specs.Numbers.{BAD-BINARY, BAD-OCTAL, BAD-HEXADECIMAL}
 use Rattle.numbers.specs.declared.Spelling.{Spelling}
 use Rattle.numbers.specs.declared.Spelling.the-variants.{AsRead, LowerPrefix}
-use Rattle.numbers.specs.Number.{after, prefixed, zeroBy, leadingZero, numberAt}
+use Rattle.numbers.specs.Number.{afterChars, prefixed, zeroBy, leadingZero, numberAt}
 use Rattle.numbers.proofs.Numerals.{zero-is, zero-prefix}
 use borrow.Author.Needs.{needs}
 use Rattle.numbers.proofs.scan_zero.Statement.{statement}
@@ -53,7 +53,7 @@ scan-bare-zero-requires c κs = search needs
 with-prefix : (c : tie.After-byte) (x : ℕ) → c .byte .result ≡ x → 0 < x → x < 0x80 → (base error : ℕ) (sp : Spelling)
     → let a = c .before .before .args in
     let r = chars (drop (a .at) (a .src .now)) in
-    zeroBy x r ≡ after 2 (prefixed base error sp (drop 2 r))
+    zeroBy x r ≡ afterChars 2 (prefixed base error sp (drop 2 r))
     → numberAt (a .at + 2) (prefixed base error sp (chars (drop (a .at + 2) (a .src .now)))) ≡ numberAt (a .at) (leadingZero r)
 with-prefix c x e l h base error sp z =
     let a = c .before .before .args in

@@ -9,7 +9,7 @@ use Rattle.utf8.specs.Chars.{chars}
 use Rattle.kinds.specs.Kinds.{ADD, ADD-ASSIGN, ASSIGN, COLON, COMMA, DEC, DEFINE, EQL, INC, LBRACE, LBRACK, LOR, LPAREN, MUL, MUL-ASSIGN, NEQ, NOT, OR, OR-ASSIGN, QUO, QUO-ASSIGN, RBRACE, RBRACK, REM, REM-ASSIGN, RPAREN, SEMICOLON, SUB, SUB-ASSIGN, XOR, XOR-ASSIGN}
 use Rattle.kinds.specs.Table.{operators}
 use Rattle.operators.specs.declared.Operator.{Operator}
-use Rattle.operators.specs.Longest.{op, none, operatorOf}
+use Rattle.operators.specs.Longest.{op, noOperator, operatorOf}
 use Rattle.operators.specs.Steps.{switch2, switch3, lessBy, greaterBy, andBy, periodBy}
 use Rattle.operators.proofs.Leading.{among}
 use Rattle.operators.proofs.Rows.{row, NotIn, one-is, switch2-is, switch2-last-is, switch3-is, less-is, greater-is, and-is, period-is, none-is, end-is}
@@ -166,7 +166,7 @@ module _ (c : tie.After-byte) where
   period-here : (x : ℕ) → x ≡ getD text (place + 1 + 1) 0 → getD text place 0 ≡ code "." → periodBy (c .byte .result) x ≡ found
   period-here x t e = ap₂ periodBy (c .byte .ensures) t ∙ period-is text place e
 
-  none-here : NotIn (getD text place 0) firsts → none ≡ found
+  none-here : NotIn (getD text place 0) firsts → noOperator ≡ found
   unfolding operators
   none-here = none-is firsts tt text place
 

@@ -1,23 +1,23 @@
 -- `quotes::body::is_plain` meets its contract.
 use borrow.Author.Tests.{eq-eqb, ne-eqb}
-use Rattle.quotes.specs.Plain.{isPlain}
+use Rattle.quotes.specs.Plain.{isPlainByte}
 use Rattle.quotes.proofs.body.is_plain.Statement.{statement}
 use Rattle.quotes.proofs.body.is_plain.Tie as tie
 
 returns : tie.Need-returns
-unfolding isPlain
+unfolding isPlainByte
 returns c = rw (eq-eqb _ _ (c .if1 .taken))
 
 returns-2 : tie.Need-returns-2
-unfolding isPlain
+unfolding isPlainByte
 returns-2 c = rw (ne-eqb _ _ (c .before .if1 .left), eq-eqb _ _ (c .if2 .taken))
 
 returns-3 : tie.Need-returns-3
-unfolding isPlain
+unfolding isPlainByte
 returns-3 c = rw (ne-eqb _ _ (c .before .before .if1 .left), ne-eqb _ _ (c .before .if2 .left), eq-eqb _ _ (c .if3 .taken))
 
 returns-4 : tie.Need-returns-4
-unfolding isPlain
+unfolding isPlainByte
 returns-4 c = rw (ne-eqb _ _ (c .before .before .if1 .left), ne-eqb _ _ (c .before .if2 .left), ne-eqb _ _ (c .if3 .left))
 
 pub is-plain-spec : {M : Type 1} → statement M
