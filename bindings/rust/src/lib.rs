@@ -1,6 +1,6 @@
 //! The proved recipe scanner: Go text to tokens.
 //!
-//! The scanner itself is two static libraries whose every function is proved to meet its contract. This crate calls
+//! The scanner itself is a static library; each of its functions is proved to meet its contract. This crate calls
 //! them, owns their buffers and turns their numbers into types. It tests whatever comes back, so that a wrong library
 //! would be noticed.
 //!

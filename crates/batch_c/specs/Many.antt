@@ -1,11 +1,12 @@
 -- The exported function that makes many scans, by the definition of these.
 use Prim.Native.Nat.{ℕ}
-use mathlib.Core.Bool.{cond, _||_}
+use mathlib.Core.Bool.{cond}
 use mathlib.Core.List.{List, [], _∷_}
-use lib.Dec.{eqb, ltb}
+use lib.Dec.{eqb}
 use lib.ListN.{length}
 use lib.Seq.{sets}
 use Rattle.refusal.specs.Refusals.{DOES-NOT-FIT}
+use Rattle.refusal.specs.Short.{tooShort}
 use Rattle.state.specs.Layout.{stateWidth, stateIn, stateNumbers}
 use Rattle.batch.specs.Many.{Left, scanManyOf}
 
@@ -41,5 +42,5 @@ scansBy l state answer =
 unfoldable pub scanManyNumbers : List ℕ → List ℕ → List ℕ → List ℕ → List ℕ → List ℕ → List ℕ → Scans
 scanManyNumbers src state table list area tokens answer =
     let l = scanManyOf src (stateIn state) table list area tokens in
-    cond (ltb (length state) stateWidth || ltb (length answer) 1) (refusedWith DOES-NOT-FIT state table list area tokens answer)
+    cond (tooShort (length state) stateWidth (length answer) 1) (refusedWith DOES-NOT-FIT state table list area tokens answer)
     (cond (eqb (l .refusal) 0) (scansBy l state answer) (refusedWith (l .refusal) state table list area tokens answer))

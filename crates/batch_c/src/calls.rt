@@ -1,7 +1,8 @@
 // The exported function: it answers the number of its refusal, or 0, and writes what it gives to lent slices. A refusal writes nothing.
-use scanner::State;
-use scanner::put_state;
-use scanner::state_in;
+use refusal::too_short;
+use state::State;
+use state::put_state;
+use state::state_in;
 ghost use mathlib.Core.Path.{_≡_};
 ghost use Rattle.batch_c.specs.Many.{scanManyNumbers};
 
@@ -21,10 +22,7 @@ pub extern "C" fn scanner_scan_many(
     ensures { λ r. ⌜ record { refusal = r; state = now (state .exit); table = now (table .exit); list = now (list .exit); area = now (area .exit); tokens = now (tokens .exit); answer = now (answer .exit) }
         ≡ scanManyNumbers (now (src .entry)) (now (state .entry)) (now (table .entry)) (now (list .entry)) (now (area .entry)) (now (tokens .entry)) (now (answer .entry)) ⌝ }
 {
-    if state.len() < State::NUMBERS {
-        return refusal::DOES_NOT_FIT;
-    }
-    if answer.len() < 1 {
+    if too_short(state.len(), State::NUMBERS, answer.len(), 1) {
         return refusal::DOES_NOT_FIT;
     }
     let ran = batch::scan_many(src, state_in(state), table, list, area, tokens);

@@ -1,4 +1,7 @@
-// The numbers of the refusals.
+// The numbers of the refusals, and the test for slices that are too short.
+mod short;
+
+pub use short::too_short;
 
 // ---- From the input.
 // Opening: not UTF-8.
