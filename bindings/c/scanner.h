@@ -53,7 +53,7 @@ enum scanner_state_index {
     SCANNER_STATE_ERRORS    /* errors in the list */
 };
 
-/* The numbers of a token. A part is in the area if its flag is 1, else in the source. */
+/* The numbers of a token. A part is in the area unless its flag is 0; a scan gives 0 or 1. */
 enum scanner_token_index {
     SCANNER_TOKEN_KIND,
     SCANNER_TOKEN_INSERTED, /* 1: a semicolon that does not stand in the source */
