@@ -14,7 +14,8 @@
  * enough: a state of SCANNER_STATE_LEN numbers, a token of SCANNER_TOKEN_LEN,
  * room for one token in `tokens`, and in `answer` as many numbers as its comment
  * says. If one is too short, the call is refused with 6 and nothing is written.
- * The table, the list and the area may have any length.
+ * The table, the list and the area may have any length; the list holds one
+ * error for each SCANNER_ERROR_LEN numbers.
  *
  * Lengths count elements. No pointer may be NULL, not even where its length is
  * 0, and no two buffers of a call may overlap.
@@ -48,7 +49,7 @@ enum scanner_state_index {
     SCANNER_STATE_SIZE,     /* positions are base to base + size */
     SCANNER_STATE_PLACE,    /* the byte at which the next scan starts */
     SCANNER_STATE_OFFSET,   /* the characters before it */
-    SCANNER_STATE_MARK,     /* 1: a semicolon may be inserted next */
+    SCANNER_STATE_MARK,     /* not 0: a semicolon may be inserted next; a scan gives 0 or 1 */
     SCANNER_STATE_LINES,    /* line starts in the table */
     SCANNER_STATE_ERRORS    /* errors in the list */
 };
@@ -58,7 +59,7 @@ enum scanner_token_index {
     SCANNER_TOKEN_KIND,
     SCANNER_TOKEN_INSERTED, /* 1: a semicolon that does not stand in the source */
     SCANNER_TOKEN_POSITION, /* base + offset of its first character */
-    SCANNER_TOKEN_CODE,     /* the code point of a CHAR */
+    SCANNER_TOKEN_CODE,     /* the code point of a CHAR, else 0 */
     SCANNER_TOKEN_TEXT_IN_AREA,
     SCANNER_TOKEN_TEXT_START,
     SCANNER_TOKEN_TEXT_END,
@@ -75,12 +76,19 @@ enum scanner_place_index {
     SCANNER_NUMBER          /* one of enum scanner_error_number */
 };
 
-/* The refusals. 1 to 5 come from the input, 6 to 9 from the state and the buffers. */
+/*
+ * The refusals. 1 to 5 come from the input, 6 to 9 from the state and the buffers.
+ * 6 says of what a call is lent: the place lies beyond the source, the offset
+ * above the place or the size, base + size is too large, the line count is 0 or
+ * above the table, the first start is not 0, the last start or that of the line
+ * asked for lies above the offset, the error count above the list, a part of a
+ * token outside its buffer; or a slice is too short.
+ */
 enum scanner_refusal {
     SCANNER_OK,
     SCANNER_NOT_UTF8,       /* opening: not UTF-8 */
     SCANNER_TOO_LONG,       /* opening: more than SCANNER_MAX_SOURCE bytes */
-    SCANNER_SIZE,           /* size below the characters, base + size too large, or a scan past the size */
+    SCANNER_SIZE,           /* opening: size below the characters, or base + size too large; a scan: past the size */
     SCANNER_POSITION,       /* a position outside base to base + size */
     SCANNER_NO_LINE,        /* line 0, or above the line count */
     SCANNER_DOES_NOT_FIT,   /* the state or the token is none of these buffers, or a slice is too short */
@@ -207,7 +215,8 @@ uint8_t scanner_open(const uint8_t *src, size_t src_len, size_t base, size_t siz
  * Scans one token: its numbers go to `token`, the next state to `state`. Give
  * the source that was opened, and state, table and list as the call before left
  * them. A text or value that differs from the source is written to the start of
- * `area` and stands there up to the next scan that is lent this area.
+ * `area`, text first, and stands there up to the next scan that is lent this
+ * area; later bytes of it stay.
  */
 uint8_t scanner_scan(const uint8_t *src, size_t src_len, size_t *state, size_t state_len,
                      size_t *table, size_t table_len, size_t *list, size_t list_len,
@@ -269,14 +278,17 @@ uint8_t scanner_error(const size_t *state, size_t state_len, const size_t *list,
  * The text of a token, as a part of the source or of the area, in `answer`
  * (SCANNER_PART_LEN numbers): 1 if it stands in the area, its start, its end.
  * Give the source that was scanned, and the area as the token's own scan left
- * it. The scans give operators, keywords and EOF an empty text. A part that does
- * not lie in its buffer, as one of a token that no scan gave may not, is refused
- * with 6.
+ * it. The scans give operators, semicolons among them, keywords and EOF an empty
+ * text: a part of the source at the place of the token. A part that does not lie
+ * in its buffer, as one of a token that no scan gave may not, is refused with 6.
  */
 uint8_t scanner_text(const uint8_t *src, size_t src_len, const uint8_t *area, size_t area_len,
                      const size_t *token, size_t token_len, size_t *answer, size_t answer_len);
 
-/* The value of a STRING, likewise; the scans give every other token an empty one. */
+/*
+ * The value of a STRING, likewise; the scans give every other token an empty one.
+ * The call looks at the part alone, and not at the kind.
+ */
 uint8_t scanner_value(const uint8_t *src, size_t src_len, const uint8_t *area, size_t area_len,
                       const size_t *token, size_t token_len, size_t *answer, size_t answer_len);
 

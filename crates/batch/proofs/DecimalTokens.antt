@@ -31,7 +31,7 @@ use Rattle.lexer.proofs.Numerals.{numeralAt, numeral-said}
 use Rattle.lexer.proofs.Dispatch.{number-is}
 use Rattle.batch.specs.declared.next.Next.{Next}
 use Rattle.parts.specs.Layout.{tokenNumbers}
-use Rattle.batch.specs.Simple.{rowsFrom, firstKind, simpleToken, Gives}
+use Rattle.batch.specs.Simple.{rowsFrom, firstKind, simpleToken, GivesSimple}
 use Rattle.batch.proofs.SimpleTokens.{letter-past}
 use Rattle.batch.proofs.Giving.{gives-plain}
 
@@ -70,7 +70,7 @@ module _ (src : List ℕ) (at end : ℕ) (some : at < end) (all : (p : ℕ) → 
   pub gives-integer : (safe position : ℕ) (tokens : List ℕ) (to : ℕ) → end < safe + 16
       → {r : Next} {tokens′ : List ℕ} → r ≡ record { found = true; place = end; mark = true }
       → tokens′ ≡ sets tokens to (tokenNumbers (simpleToken INT false position at end))
-      → Gives src at safe position tokens to r tokens′
+      → GivesSimple src at safe position tokens to r tokens′
   gives-integer safe position tokens to near is w =
       let whole : at + (end - at) ≡ end = omega arith in
       gives-plain src at safe position tokens to INT end false true (NumberText AsRead) (end - at) integer-reads refl refl near is (w ∙ rw whole)

@@ -15,13 +15,13 @@ use Rattle.refusal.specs.Refusals.{DOES-NOT-FIT}
 use Rattle.state.specs.declared.state.State.{State}
 use Rattle.state.specs.Fits.{fits}
 use Rattle.parts.specs.declared.token.Token.{Token}
-use Rattle.scanner.specs.Scan.{After, scanOf}
+use Rattle.scanner.specs.Scan.{ScanLeft, scanOf}
 use Rattle.parts.specs.Layout.{tokenWidth, tokenNumbers}
-use Rattle.batch.specs.Many.{Run, Left, isLast, stopped, before, manyOf, tokensNumbers, tokenRoom, leftAfter, refusedWith, scanManyOf}
+use Rattle.batch.specs.Many.{ManyRun, ManyLeft, isLast, stopped, tokenBefore, manyOf, tokensNumbers, tokenRoom, leftAfter, manyRefused, scanManyOf}
 use Rattle.scanner.proofs.Scans.{scan-unfit, scan-kept}
 
 -- one token before the others is one more that they stand behind
-left-next : (n : ℕ) (tokens : List ℕ) (t : Token) (r : Run) → leftAfter n tokens (before t r) ≡ leftAfter (n + 1) (sets tokens (n * tokenWidth) (tokenNumbers t)) r
+left-next : (n : ℕ) (tokens : List ℕ) (t : Token) (r : ManyRun) → leftAfter n tokens (tokenBefore t r) ≡ leftAfter (n + 1) (sets tokens (n * tokenWidth) (tokenNumbers t)) r
 unfolding tokensNumbers
 left-next n tokens t r =
     let w = n * tokenWidth in
@@ -47,7 +47,7 @@ module _ (room n : ℕ) (src : List ℕ) (s : State) (table list area tokens : L
   unfolding manyOf
   left-none h = let z : room - n ≡ 0 = omega arith in rw z
 
-  module _ (h : n < room) {a : After} (e : a ≡ scanOf src s table list area) where
+  module _ (h : n < room) {a : ScanLeft} (e : a ≡ scanOf src s table list area) where
     more : room - n ≡ suc (room - (n + 1))
     more = omega arith
 
@@ -57,7 +57,7 @@ module _ (room n : ℕ) (src : List ℕ) (s : State) (table list area tokens : L
     unfolding manyOf
     left-refused f =
         let kept = e ∙ scan-kept src s table list area (rw e at f) in
-        rw (more, ← e, ne-eqb _ _ f) (ap (λ (b : After). leftAfter n tokens (stopped (b .answer .state) (b .table) (b .list) (b .area))) (sym kept))
+        rw (more, ← e, ne-eqb _ _ f) (ap (λ (b : ScanLeft). leftAfter n tokens (stopped (b .answer .state) (b .table) (b .list) (b .area))) (sym kept))
 
     pub left-last : a .answer .refusal ≡ 0 → isLast (a .answer .token) ≡ true
         → leftAfter n tokens (manyOf (room - n) src s table list area)
@@ -73,25 +73,25 @@ module _ (room n : ℕ) (src : List ℕ) (s : State) (table list area tokens : L
 
 -- ---- the whole call
 module _ (src : List ℕ) (s : State) (table list area tokens : List ℕ) where
-  pub no-room : length tokens < tokenWidth → refusedWith DOES-NOT-FIT s table list area tokens ≡ scanManyOf src s table list area tokens
+  pub no-room : length tokens < tokenWidth → manyRefused DOES-NOT-FIT s table list area tokens ≡ scanManyOf src s table list area tokens
   unfolding scanManyOf
   no-room h = rw (lt-ltb _ _ h)
 
   pub first-unfit : tokenWidth ≤ length tokens → fits s src table list ≡ false
-      → refusedWith DOES-NOT-FIT s table list area tokens ≡ scanManyOf src s table list area tokens
+      → manyRefused DOES-NOT-FIT s table list area tokens ≡ scanManyOf src s table list area tokens
   unfolding scanManyOf
   first-unfit h unfit = rw (le-ltb _ _ h, scan-unfit src s table list area unfit)
 
   -- a call that is refused leaves all as it was
   pub many-kept : (scanManyOf src s table list area tokens .refusal ≡ 0 → ⊥)
-      → scanManyOf src s table list area tokens ≡ refusedWith (scanManyOf src s table list area tokens .refusal) s table list area tokens
+      → scanManyOf src s table list area tokens ≡ manyRefused (scanManyOf src s table list area tokens .refusal) s table list area tokens
   unfolding scanManyOf
   many-kept =
-      let Kept : Left → Type 0 = λ l. (l .refusal ≡ 0 → ⊥) → l ≡ refusedWith (l .refusal) s table list area tokens in
+      let Kept : ManyLeft → Type 0 = λ l. (l .refusal ≡ 0 → ⊥) → l ≡ manyRefused (l .refusal) s table list area tokens in
       let n = scanOf src s table list area .answer .refusal in
       let some = leftAfter 0 tokens (manyOf (tokenRoom tokens) src s table list area) in
-      let kept = refusedWith n s table list area tokens in
-      cond-ind Kept (ltb (length tokens) tokenWidth) (refusedWith DOES-NOT-FIT s table list area tokens) (cond (eqb n 0) some kept) (λ _ _. refl)
+      let kept = manyRefused n s table list area tokens in
+      cond-ind Kept (ltb (length tokens) tokenWidth) (manyRefused DOES-NOT-FIT s table list area tokens) (cond (eqb n 0) some kept) (λ _ _. refl)
       (λ _. cond-ind Kept (eqb n 0) some kept (λ _ h. absurd (h refl)) (λ _ _. refl))
 
   -- scans that came to their end behind so many tokens
@@ -104,7 +104,7 @@ module _ (src : List ℕ) (s : State) (table list area tokens : List ℕ) where
     number = scanOf src s table list area .answer .refusal
 
     counted : leftAfter 0 tokens (manyOf (tokenRoom tokens) src s table list area) .count ≡ count
-    counted = ap (λ (l : Left). l .count) e ∙ add-zero count
+    counted = ap (λ (l : ManyLeft). l .count) e ∙ add-zero count
 
     refused-is : (number ≡ 0 → ⊥) → manyOf (tokenRoom tokens) src s table list area ≡ stopped s table list area
     unfolding manyOf
@@ -116,17 +116,17 @@ module _ (src : List ℕ) (s : State) (table list area tokens : List ℕ) where
 
     -- none: the first scan was refused
     pub none-given : count ≡ 0 → {n : ℕ} → number ≡ n
-        → _≡_ {A = Left} (record { refusal = n; state = s; table = table′; list = list′; area = area′; tokens = tokens′; count = 0 }) (scanManyOf src s table list area tokens)
+        → _≡_ {A = ManyLeft} (record { refusal = n; state = s; table = table′; list = list′; area = area′; tokens = tokens′; count = 0 }) (scanManyOf src s table list area tokens)
     unfolding scanManyOf tokensNumbers
     none-given c k =
         let f : number ≡ 0 → ⊥ = λ z. gave-some z c in
         let left = rw (refused-is f) at e in
-        rw (le-ltb _ _ enough, ne-eqb _ _ f, k, ap (λ (l : Left). l .table) left, ap (λ (l : Left). l .list) left, ap (λ (l : Left). l .area) left, ap (λ (l : Left). l .tokens) left)
+        rw (le-ltb _ _ enough, ne-eqb _ _ f, k, ap (λ (l : ManyLeft). l .table) left, ap (λ (l : ManyLeft). l .list) left, ap (λ (l : ManyLeft). l .area) left, ap (λ (l : ManyLeft). l .tokens) left)
 
     -- some: it was not
     pub some-given : (count ≡ 0 → ⊥)
-        → _≡_ {A = Left} (record { refusal = 0; state = s′; table = table′; list = list′; area = area′; tokens = tokens′; count = count }) (scanManyOf src s table list area tokens)
+        → _≡_ {A = ManyLeft} (record { refusal = 0; state = s′; table = table′; list = list′; area = area′; tokens = tokens′; count = count }) (scanManyOf src s table list area tokens)
     unfolding scanManyOf tokensNumbers
     some-given c =
-        let z : eqb number 0 ≡ true = ⊎-elim (λ t. t) (λ f. absurd (c (sym counted ∙ ap (λ (r : Run). leftAfter 0 tokens r .count) (refused-is (eqb-false _ _ f))))) (either (eqb number 0)) in
+        let z : eqb number 0 ≡ true = ⊎-elim (λ t. t) (λ f. absurd (c (sym counted ∙ ap (λ (r : ManyRun). leftAfter 0 tokens r .count) (refused-is (eqb-false _ _ f))))) (either (eqb number 0)) in
         rw (le-ltb _ _ enough, z, e, add-zero)

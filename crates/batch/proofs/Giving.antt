@@ -32,11 +32,11 @@ use Rattle.lexer.proofs.Tokens.{identifier-said, keyword-said}
 use Rattle.batch.specs.declared.next.Next.{Next}
 use Rattle.parts.specs.Layout.{tokenNumbers}
 use Rattle.scanner.specs.Steps.{tokenBy}
-use Rattle.batch.specs.Simple.{IsKeywords, simpleToken, wordToken, Gives}
+use Rattle.batch.specs.Simple.{IsKeywords, simpleToken, wordToken, GivesSimple}
 
 module _ (src : List ℕ) (at safe position : ℕ) (tokens : List ℕ) (to : ℕ) where
   -- none
-  pub gives-none : {r : Next} → r .found ≡ false → Gives src at safe position tokens to r tokens
+  pub gives-none : {r : Next} → r .found ≡ false → GivesSimple src at safe position tokens to r tokens
   gives-none n = (λ _. refl, λ t. absurd (false≢true (sym n ∙ t)))
 
   -- a token of ASCII characters that is no string
@@ -48,7 +48,7 @@ module _ (src : List ℕ) (at safe position : ℕ) (tokens : List ℕ) (to : ℕ
         → eqb kind EOF ≡ false → eqb kind STRING ≡ false → end < safe + 16
         → {r : Next} {tokens′ : List ℕ} → r ≡ record { found = true; place = end; mark = mark }
         → tokens′ ≡ sets tokens to (tokenNumbers (simpleToken kind inserted position at (at + bytes)))
-        → Gives src at safe position tokens to r tokens′
+        → GivesSimple src at safe position tokens to r tokens′
     gives-plain reads known n near {r} {tokens′} e w = (
       λ f. absurd (true≢false (sym (ap (λ (y : Next). y .found) e) ∙ f)),
       λ _. record {
@@ -76,20 +76,20 @@ module _ (src : List ℕ) (at safe position : ℕ) (tokens : List ℕ) (to : ℕ
     no-string : eqb kind STRING ≡ false
     no-string = ne-eqb kind STRING (λ z. word-no-string _ (sym k ∙ z))
 
-    identifier : kind ≡ IDENT → Gives src at safe position tokens to r tokens′
+    identifier : kind ≡ IDENT → GivesSimple src at safe position tokens to r tokens′
     identifier i =
         let whole : at + (end - at) ≡ end = omega (arith, e) in
         gives-plain kind end false true AsRead (end - at)
         (λ m. identifier-said src at end kind e k l i ∙ ap (placed src at) (word-is m src at h l)) known no-string near
         (is ∙ rw i) (w ∙ rw (eq-eqb kind IDENT i, whole))
 
-    keyword : (kind ≡ IDENT → ⊥) → Gives src at safe position tokens to r tokens′
+    keyword : (kind ≡ IDENT → ⊥) → GivesSimple src at safe position tokens to r tokens′
     keyword n =
         gives-plain kind end false (setsMark kind) Empty 0
         (λ m. keyword-said src at end kind e k n ∙ ap (placed src at) (word-is m src at h l)) known no-string near
         is (w ∙ rw (ne-eqb kind IDENT n, add-zero at))
 
-    pub gives-word : Gives src at safe position tokens to r tokens′
+    pub gives-word : GivesSimple src at safe position tokens to r tokens′
     gives-word = ⊎-elim (λ i. identifier (eqb-true kind IDENT i)) (λ n. keyword (eqb-false kind IDENT n)) (either (eqb kind IDENT))
 
 -- a word of fewer than eight bytes, by its length
@@ -97,7 +97,7 @@ pub gives-short : (src : List ℕ) (at safe position : ℕ) (tokens : List ℕ) 
     → (kind n : ℕ) → n ≡ wordLen (chars (drop at src)) → kind ≡ identToken (take n (drop at src)) → at + n < safe + 16
     → {r : Next} {tokens′ : List ℕ} → r ≡ record { found = true; place = at + n; mark = setsMark kind }
     → tokens′ ≡ sets tokens to (tokenNumbers (wordToken kind position at (at + n)))
-    → Gives src at safe position tokens to r tokens′
+    → GivesSimple src at safe position tokens to r tokens′
 gives-short src at safe position tokens to h l kind n e k near is w =
     let same : at + n - at ≡ n = omega arith in
     gives-word src at safe position tokens to h l kind (at + n) (ap (λ m. at + m) e)

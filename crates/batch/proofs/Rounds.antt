@@ -12,7 +12,7 @@ use Rattle.basics.proofs.Choice.{either, and-split}
 use lib.Seq.{sets}
 use Rattle.state.specs.declared.state.State.{State}
 use Rattle.state.specs.Fits.{fits}
-use Rattle.scanner.specs.Scan.{After, scanOf}
+use Rattle.scanner.specs.Scan.{ScanLeft, scanOf}
 use Rattle.batch.specs.declared.round.Round.{Round}
 use Rattle.parts.specs.Layout.{tokenWidth, tokenNumbers}
 use Rattle.batch.specs.Many.{isLast, stopped, manyOf, leftAfter}
@@ -104,11 +104,11 @@ module _ (room : ℕ) (src : List ℕ) where
             within = b .within;
             room-left = b .room-left;
             left = run .left area ∙ b .left;
-            same = λ z. ap (λ (a : After). a .answer .refusal) (run .same (omega (arith, o, p, z)) area) ∙ b .same (omega (arith, o, p, z));
+            same = λ z. ap (λ (a : ScanLeft). a .answer .refusal) (run .same (omega (arith, o, p, z)) area) ∙ b .same (omega (arith, o, p, z));
           }
 
     -- ---- one scan
-    module _ {n : ℕ} (f : fits s src table list ≡ true) (h : n < room) {a : After} (e : a ≡ scanOf src s table list area) where
+    module _ {n : ℕ} (f : fits s src table list ≡ true) (h : n < room) {a : ScanLeft} (e : a ≡ scanOf src s table list area) where
       -- refused
       pub comes-refused : (a .answer .refusal ≡ 0 → ⊥)
           → Comes room src s table list area tokens n (record { more = false; state = a .answer .state; refusal = a .answer .refusal; count = n }) (a .table) (a .list) (a .area) tokens
@@ -119,7 +119,7 @@ module _ (room : ℕ) (src : List ℕ) where
             within = omega (arith, h);
             room-left = λ t. absurd (false≢true t);
             left = left-refused room n src s table list area tokens h e g;
-            same = λ _. ap (λ (b : After). b .answer .refusal) (sym e);
+            same = λ _. ap (λ (b : ScanLeft). b .answer .refusal) (sym e);
           }
 
       -- a token

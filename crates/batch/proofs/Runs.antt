@@ -17,7 +17,7 @@ use Rattle.blanks.specs.Blank.{skip, skippedAt}
 use Rattle.position.specs.Place.{inRange}
 use Rattle.state.specs.Fits.{fileOf, fitsAlone, fitsTable, fitsSource, fitsList, fits}
 use Rattle.parts.specs.declared.token.Token.{Token}
-use Rattle.scanner.specs.Scan.{After, scanOf}
+use Rattle.scanner.specs.Scan.{ScanLeft, scanOf}
 use Rattle.parts.specs.Layout.{tokenWidth, tokenNumbers}
 use Rattle.batch.specs.Many.{isLast, manyOf, leftAfter}
 use Rattle.batch.specs.declared.near.Near.{Near}
@@ -34,12 +34,12 @@ use Rattle.batch.proofs.SimpleScans.{gave, end-over, token, next, scans
 
 -- the state that a scan without a refusal leaves, which is known, fits
 pub scan-fits : (src : List ℕ) (s : State) (table list area : List ℕ) → fits s src table list ≡ true
-    → {a : After} → a ≡ scanOf src s table list area → a .answer .refusal ≡ 0 → fits (a .answer .state) src (a .table) (a .list) ≡ true
+    → {a : ScanLeft} → a ≡ scanOf src s table list area → a .answer .refusal ≡ 0 → fits (a .answer .state) src (a .table) (a .list) ≡ true
 scan-fits src s table list area f e z = rw e (fits-after src s table list area f (rw e at z))
 
 -- and the state that a refused scan leaves is the one that fitted
 pub refused-fits : (src : List ℕ) (s : State) (table list area : List ℕ) → fits s src table list ≡ true
-    → {a : After} → a ≡ scanOf src s table list area → (a .answer .refusal ≡ 0 → ⊥) → fits (a .answer .state) src (a .table) (a .list) ≡ true
+    → {a : ScanLeft} → a ≡ scanOf src s table list area → (a .answer .refusal ≡ 0 → ⊥) → fits (a .answer .state) src (a .table) (a .list) ≡ true
 refused-fits src s table list area f e g = rw (e ∙ scan-kept src s table list area (rw e at g)) f
 
 module _ (src : List ℕ) (s : State) (table list : List ℕ) {next : State} {token : Token} {table′ : List ℕ}

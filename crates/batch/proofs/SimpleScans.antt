@@ -21,7 +21,7 @@ use Rattle.state.specs.declared.state.State.{State}
 use Rattle.state.specs.Fits.{fileOf, fits}
 use Rattle.parts.specs.declared.token.Token.{Token}
 use Rattle.scanner.specs.declared.answer.Scanned.{Scanned}
-use Rattle.scanner.specs.Scan.{After, scanOf}
+use Rattle.scanner.specs.Scan.{ScanLeft, scanOf}
 use Rattle.scanner.specs.Steps.{Reads, toWrite, isPlain, refusalBy, stateBy, tokenBy, startsFrom}
 use Rattle.batch.specs.Many.{isLast}
 use Rattle.batch.specs.Run.{stateAt, Recorded}
@@ -32,7 +32,7 @@ use Rattle.scanner.proofs.Committed.{plain, commit-plain-is}
 use Rattle.scanner.proofs.LineStarts.{starts-one}
 
 -- what a scan leaves that gives a token and writes to the table alone
-abbrev pub gave : State → Token → List ℕ → List ℕ → List ℕ → After
+abbrev pub gave : State → Token → List ℕ → List ℕ → List ℕ → ScanLeft
 gave next token table list area = record { table = table; list = list; area = area; answer = record { refusal = 0; state = next; token = token } }
 
 module _ (s : State) (b : Skipped) (table table′ : List ℕ) where

@@ -20,7 +20,7 @@ use Rattle.lexer.proofs.Dispatch.{string-is}
 use Rattle.batch.specs.declared.next.Next.{Next}
 use Rattle.parts.specs.Layout.{tokenNumbers}
 use Rattle.scanner.specs.Steps.{tokenBy}
-use Rattle.batch.specs.Simple.{stringToken, Gives}
+use Rattle.batch.specs.Simple.{stringToken, GivesSimple}
 
 -- the lexer's answer for a string of n plain characters; the code is that of the first
 abbrev stringAs : ℕ → ℕ → ℕ → Lexed
@@ -55,7 +55,7 @@ module _ (src : List ℕ) (at close : ℕ) (there : getD src at 0 ≡ 34) (e : c
         }
 
     pub gives-string : (safe : ℕ) (tokens : List ℕ) (to : ℕ) → close < safe → {r : Next} {tokens′ : List ℕ} → r ≡ record { found = true; place = close + 1; mark = true }
-        → tokens′ ≡ sets tokens to (tokenNumbers (stringToken position at close)) → Gives src at safe position tokens to r tokens′
+        → tokens′ ≡ sets tokens to (tokenNumbers (stringToken position at close)) → GivesSimple src at safe position tokens to r tokens′
     gives-string safe tokens to near {r} {tokens′} is w = (
       λ n. absurd (true≢false (sym (ap (λ (y : Next). y .found) is) ∙ n)),
       λ _. record {

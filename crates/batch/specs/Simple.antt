@@ -96,6 +96,6 @@ pub record Gave (src : List ℕ) (at safe position : ℕ) (tokens : List ℕ) (t
   pub written : tokens′ ≡ sets tokens to (tokenNumbers (tokenBy x at position))
 
 -- where none is found, nothing is written
-abbrev pub Gives : List ℕ → ℕ → ℕ → ℕ → List ℕ → ℕ → Next → List ℕ → Type 0
-Gives src at safe position tokens to r tokens′ =
+abbrev pub GivesSimple : List ℕ → ℕ → ℕ → ℕ → List ℕ → ℕ → Next → List ℕ → Type 0
+GivesSimple src at safe position tokens to r tokens′ =
     (r .found ≡ false → tokens′ ≡ tokens) × (r .found ≡ true → Gave src at safe position tokens to r tokens′)

@@ -12,7 +12,7 @@ ghost use lib.ListN.{length, getD};
 ghost use lib.Seq.{sets};
 ghost use Rattle.digits.specs.Digit.{isDecimal};
 ghost use Rattle.parts.specs.Layout.{tokenWidth, tokenNumbers};
-ghost use Rattle.batch.specs.Simple.{quote, IsTable, stringToken, Gives};
+ghost use Rattle.batch.specs.Simple.{quote, IsTable, stringToken, GivesSimple};
 
 // Where the digits from a place on end, at the latest at the safe place.
 fn digits_end(src: &[u8], firsts: &[u8; 256], at: usize, safe: usize) -> usize
@@ -42,7 +42,7 @@ pub(crate) fn decimal(
 ) -> Next
     requires { ⌜ IsTable (now firsts) × (at < safe) × (safe < length (now src)) × (isDecimal (getD (now src) at 0) ≡ true)
         × (to + tokenWidth ≤ length (now tokens)) ⌝ }
-    ensures { λ r. ⌜ Gives (now (src .entry)) at safe position (now (tokens .entry)) to r (now (tokens .exit)) ⌝ }
+    ensures { λ r. ⌜ GivesSimple (now (src .entry)) at safe position (now (tokens .entry)) to r (now (tokens .exit)) ⌝ }
 {
     let end = digits_end(src, firsts, at, safe);
     if safe <= end {
@@ -104,7 +104,7 @@ pub(crate) fn string(
     to: usize,
 ) -> Next
     requires { ⌜ (at < safe) × (safe < length (now src)) × (getD (now src) at 0 ≡ quote) × (to + tokenWidth ≤ length (now tokens)) ⌝ }
-    ensures { λ r. ⌜ Gives (now (src .entry)) at safe position (now (tokens .entry)) to r (now (tokens .exit)) ⌝ }
+    ensures { λ r. ⌜ GivesSimple (now (src .entry)) at safe position (now (tokens .entry)) to r (now (tokens .exit)) ⌝ }
 {
     let close = quotes::plain_string(src, at + 1);
     if safe <= close {

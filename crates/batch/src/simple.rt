@@ -12,7 +12,7 @@ ghost use lib.ListN.{length, getD};
 ghost use Rattle.kinds.specs.Kinds.{ADD, LPAREN};
 ghost use Rattle.parts.specs.Layout.{tokenWidth};
 ghost use Rattle.batch.specs.Near.{lineFeed};
-ghost use Rattle.batch.specs.Simple.{firstKind, IsTable, IsKeywords, Gives};
+ghost use Rattle.batch.specs.Simple.{firstKind, IsTable, IsKeywords, GivesSimple};
 
 // Gives the operator at a place.
 fn operator(
@@ -24,7 +24,7 @@ fn operator(
     to: usize,
 ) -> Next
     requires { ⌜ (at < safe) × (safe ≤ length (now src)) × (firstKind (getD (now src) at 0) ≡ ADD) × (to + tokenWidth ≤ length (now tokens)) ⌝ }
-    ensures { λ r. ⌜ Gives (now (src .entry)) at safe position (now (tokens .entry)) to r (now (tokens .exit)) ⌝ }
+    ensures { λ r. ⌜ GivesSimple (now (src .entry)) at safe position (now (tokens .entry)) to r (now (tokens .exit)) ⌝ }
 {
     let o = operators::scan_operator(src, at);
     let kind = o.kind;
@@ -50,7 +50,7 @@ fn delimiter(
 ) -> Next
     requires { ⌜ IsTable (now firsts) × (at < safe) × (safe < length (now src)) × (kind ≡ firstKind (getD (now src) at 0)) × (LPAREN ≤ kind)
         × (to + tokenWidth ≤ length (now tokens)) ⌝ }
-    ensures { λ r. ⌜ Gives (now (src .entry)) at safe position (now (tokens .entry)) to r (now (tokens .exit)) ⌝ }
+    ensures { λ r. ⌜ GivesSimple (now (src .entry)) at safe position (now (tokens .entry)) to r (now (tokens .exit)) ⌝ }
 {
     if kind == kinds::PERIOD {
         if firsts[src[at + 1] as usize] != kinds::IDENT {
@@ -76,7 +76,7 @@ fn semicolon(
     to: usize,
 ) -> Next
     requires { ⌜ (at < safe) × (getD (now src) at 0 ≡ lineFeed) × (to + tokenWidth ≤ length (now tokens)) ⌝ }
-    ensures { λ r. ⌜ Gives (now (src .entry)) at safe position (now (tokens .entry)) to r (now (tokens .exit)) ⌝ }
+    ensures { λ r. ⌜ GivesSimple (now (src .entry)) at safe position (now (tokens .entry)) to r (now (tokens .exit)) ⌝ }
 {
     put_shown(kinds::SEMICOLON, true, position, at, at, tokens, to);
     Next {
@@ -100,7 +100,7 @@ pub(crate) fn give_simple(
     to: usize,
 ) -> Next
     requires { ⌜ IsTable (now firsts) × IsKeywords (now keys) (now values) × (at < safe) × (safe < length (now src)) × (to + tokenWidth ≤ length (now tokens)) ⌝ }
-    ensures { λ r. ⌜ Gives (now (src .entry)) at safe position (now (tokens .entry)) to r (now (tokens .exit)) ⌝ }
+    ensures { λ r. ⌜ GivesSimple (now (src .entry)) at safe position (now (tokens .entry)) to r (now (tokens .exit)) ⌝ }
 {
     let b = src[at];
     let first = firsts[b as usize];

@@ -10,7 +10,7 @@ ghost use lib.Seq.{sets};
 ghost use Rattle.words.specs.Word.{isLetter};
 ghost use Rattle.kinds.specs.Table.{setsMark};
 ghost use Rattle.parts.specs.Layout.{tokenWidth, tokenNumbers};
-ghost use Rattle.batch.specs.Simple.{IsKeywords, wordToken, Gives};
+ghost use Rattle.batch.specs.Simple.{IsKeywords, wordToken, GivesSimple};
 
 // Gives the word of a kind; only an identifier has a text.
 fn give_word(
@@ -44,7 +44,7 @@ fn long_word(
     to: usize,
 ) -> Next
     requires { ⌜ (at < length (now src)) × (isLetter (getD (now src) at 0) ≡ true) × (to + tokenWidth ≤ length (now tokens)) ⌝ }
-    ensures { λ r. ⌜ Gives (now (src .entry)) at safe position (now (tokens .entry)) to r (now (tokens .exit)) ⌝ }
+    ensures { λ r. ⌜ GivesSimple (now (src .entry)) at safe position (now (tokens .entry)) to r (now (tokens .exit)) ⌝ }
 {
     let end = words::word_end(src, at);
     if safe <= end {
@@ -67,7 +67,7 @@ pub(crate) fn word(
 ) -> Next
     requires { ⌜ IsKeywords (now keys) (now values) × (at < safe) × (safe ≤ length (now src)) × (isLetter (getD (now src) at 0) ≡ true)
         × (to + tokenWidth ≤ length (now tokens)) ⌝ }
-    ensures { λ r. ⌜ Gives (now (src .entry)) at safe position (now (tokens .entry)) to r (now (tokens .exit)) ⌝ }
+    ensures { λ r. ⌜ GivesSimple (now (src .entry)) at safe position (now (tokens .entry)) to r (now (tokens .exit)) ⌝ }
 {
     let run = words::near_run(src, at);
     let n = run.len;

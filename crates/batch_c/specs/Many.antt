@@ -8,7 +8,7 @@ use lib.Seq.{sets}
 use Rattle.refusal.specs.Refusals.{DOES-NOT-FIT}
 use Rattle.refusal.specs.Short.{tooShort}
 use Rattle.state.specs.Layout.{stateWidth, stateIn, stateNumbers}
-use Rattle.batch.specs.Many.{Left, scanManyOf}
+use Rattle.batch.specs.Many.{ManyLeft, scanManyOf}
 
 -- what the exported function leaves in the lent slices, and its refusal or 0
 pub record Scans : Type 0 where
@@ -21,12 +21,12 @@ pub record Scans : Type 0 where
   pub answer : List ℕ
 
 -- a refusal leaves all as it was
-abbrev pub refusedWith : ℕ → List ℕ → List ℕ → List ℕ → List ℕ → List ℕ → List ℕ → Scans
-refusedWith n state table list area tokens answer =
+abbrev pub scansRefused : ℕ → List ℕ → List ℕ → List ℕ → List ℕ → List ℕ → List ℕ → Scans
+scansRefused n state table list area tokens answer =
     record { refusal = n; state = state; table = table; list = list; area = area; tokens = tokens; answer = answer }
 
 -- what scans leave: state and count go to their slices
-abbrev pub scansBy : Left → List ℕ → List ℕ → Scans
+abbrev pub scansBy : ManyLeft → List ℕ → List ℕ → Scans
 scansBy l state answer =
     record {
       refusal = 0;
@@ -42,5 +42,5 @@ scansBy l state answer =
 unfoldable pub scanManyNumbers : List ℕ → List ℕ → List ℕ → List ℕ → List ℕ → List ℕ → List ℕ → Scans
 scanManyNumbers src state table list area tokens answer =
     let l = scanManyOf src (stateIn state) table list area tokens in
-    cond (tooShort (length state) stateWidth (length answer) 1) (refusedWith DOES-NOT-FIT state table list area tokens answer)
-    (cond (eqb (l .refusal) 0) (scansBy l state answer) (refusedWith (l .refusal) state table list area tokens answer))
+    cond (tooShort (length state) stateWidth (length answer) 1) (scansRefused DOES-NOT-FIT state table list area tokens answer)
+    (cond (eqb (l .refusal) 0) (scansBy l state answer) (scansRefused (l .refusal) state table list area tokens answer))

@@ -18,7 +18,7 @@ use Rattle.refusal.specs.Outcome.{refused, gave}
 use Rattle.refusal.proofs.Outcomes.{refused-gave}
 use Rattle.errors.specs.declared.layout.Error.{Error}
 use Rattle.errors.specs.Layout.{width, numbers, recordAt}
-use Rattle.errors.specs.Errors.{roomOf, errorsOf, After, addTo, getOf}
+use Rattle.errors.specs.Errors.{roomOf, errorsOf, AddLeft, addTo, getOf}
 use Rattle.errors.proofs.Records.{error-written, error-kept}
 
 -- ---- the first n errors
@@ -86,7 +86,7 @@ module _ (l : List ℕ) (n : ℕ) (e : Error) where
   add-gave h = rw (le-leb n (roomOf l) (omega arith), lt-ltb _ _ h)
 
 -- the two cases: refused and nothing changed, or one error more
-pub data Adds (l : List ℕ) (n : ℕ) (e : Error) : After → Type 0 where
+pub data Adds (l : List ℕ) (n : ℕ) (e : Error) : AddLeft → Type 0 where
   left : (m : ℕ) → Adds l n e (record { list = l; outcome = refused m })
   more : n < roomOf l → Adds l n e (record { list = sets l (n * width) (numbers e); outcome = gave (n + 1) })
 
@@ -117,20 +117,20 @@ module _ (l : List ℕ) (n i : ℕ) where
 -- ---- what adding keeps, and what it adds
 
 module _ {l : List ℕ} {n : ℕ} {e : Error} where
-  kept-length : {x : After} → Adds l n e x → length (x .list) ≡ length l
+  kept-length : {x : AddLeft} → Adds l n e x → length (x .list) ≡ length l
   kept-length (left m) = refl
   kept-length (more h) = length-sets l (n * width) (numbers e)
 
-  kept-errors : {x : After} → Adds l n e x → errorsOf n (x .list) ≡ errorsOf n l
+  kept-errors : {x : AddLeft} → Adds l n e x → errorsOf n (x .list) ≡ errorsOf n l
   kept-errors (left m) = refl
   kept-errors (more h) = errors-kept n l (n * width) (numbers e) (omega arith)
 
   module _ {k : ℕ} where
-    count-after : {x : After} → Adds l n e x → x .outcome ≡ gave k → (k ≡ n + 1) × (k ≤ roomOf l)
+    count-after : {x : AddLeft} → Adds l n e x → x .outcome ≡ gave k → (k ≡ n + 1) × (k ≤ roomOf l)
     count-after (left m) q = refused-gave q
     count-after (more h) q = let z : k ≡ n + 1 = cc in (z, omega arith)
 
-    errors-after : {x : After} → Adds l n e x → x .outcome ≡ gave k → errorsOf k (x .list) ≡ errorsOf n l ++ (e ∷ [])
+    errors-after : {x : AddLeft} → Adds l n e x → x .outcome ≡ gave k → errorsOf k (x .list) ≡ errorsOf n l ++ (e ∷ [])
     unfolding errorsOf
     errors-after (left m) q = refused-gave q
     errors-after (more h) q =

@@ -8,9 +8,9 @@ use Rattle.errors.specs.declared.Added.the-variants.{Count, Refused}
 use Rattle.errors.specs.declared.Got.{Got}
 use Rattle.errors.specs.declared.Got.the-variants.{Found, Nothing, Refused as NotGot}
 
-abbrev pub outcome : Added → Outcome ℕ
-outcome (Count n) = gave n
-outcome (Refused n) = refused n
+abbrev pub addOutcome : Added → Outcome ℕ
+addOutcome (Count n) = gave n
+addOutcome (Refused n) = refused n
 
 abbrev pub got : Got → Outcome (Option Error)
 got (Found e) = gave (some e)

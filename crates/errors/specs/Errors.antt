@@ -21,12 +21,12 @@ errorsOf zero list = []
 errorsOf (suc n) list = errorsOf n list ++ (recordAt list (n * width) ∷ [])
 
 -- what adding leaves in the list, and its outcome: the count of errors
-pub record After : Type 0 where
+pub record AddLeft : Type 0 where
   pub list : List ℕ
   pub outcome : Outcome ℕ
 
 -- one error after the first n
-unfoldable pub addTo : List ℕ → ℕ → Error → After
+unfoldable pub addTo : List ℕ → ℕ → Error → AddLeft
 addTo list n e =
     cond (leb n (roomOf list))
     (cond (ltb n (roomOf list))

@@ -1,6 +1,6 @@
 // The list of errors, in order of arrival, in a slice that the caller lends.
 ghost use mathlib.Core.Path.{_≡_};
-ghost use Rattle.errors.specs.Answers.{outcome, got};
+ghost use Rattle.errors.specs.Answers.{addOutcome, got};
 ghost use Rattle.errors.specs.Errors.{roomOf, addTo, getOf};
 
 mod layout;
@@ -43,7 +43,7 @@ pub fn room(list: &[usize]) -> usize
 
 // Adds an error after the first `count`.
 pub fn add(list: &mut [usize], count: usize, error: Error) -> Added
-    ensures { λ r. ⌜ record { list = now (list .exit); outcome = outcome r } ≡ addTo (now (list .entry)) count error ⌝ }
+    ensures { λ r. ⌜ record { list = now (list .exit); outcome = addOutcome r } ≡ addTo (now (list .entry)) count error ⌝ }
 {
     let most = room(list);
     if count > most {

@@ -148,7 +148,7 @@ kindNamed word (row ∷ rows) = cond (same word (row .name)) (row .kind) (kindNa
 abbrev pub identToken : List ℕ → ℕ
 identToken word = kindNamed word keywords
 
--- the row of a kind; a number that is no kind is of no class and has no name
+-- the row of a kind; a number that is no kind has the class of those that are no literal, operator or keyword, and no name
 unfoldable pub rowOf : ℕ → List Row → Row
 rowOf k [] = other k ""
 rowOf k (row ∷ rows) = cond (eqb k (row .kind)) row (rowOf k rows)

@@ -18,7 +18,7 @@ use Rattle.kinds.specs.Kinds.{INT}
 use Rattle.digits.specs.Digit.{digitVal, isDecimal}
 use Rattle.numbers.specs.declared.Number.{Number}
 use Rattle.numbers.specs.declared.Spelling.the-variants.{AsRead}
-use Rattle.numbers.specs.Run.{Run, more, digitRun}
+use Rattle.numbers.specs.Run.{Run, longerRun, digitRun}
 use Rattle.numbers.specs.Number.{decimal, bareZero, zeroBy, withoutI, number, numberAt}
 use Rattle.numbers.proofs.Runs.{run-end, run-digit, run-other}
 use Rattle.numbers.proofs.Numerals.{finish-end, rest-plain, decimal-good, bare-decimal, zero-is, without-zero, without-other}
@@ -46,7 +46,7 @@ run-of s zero at end e all d u =
 run-of s (suc n) at end e all d u =
     let here = all at (omega arith) (omega (arith, e)) in
     run-digit 10 s at (reach s at (omega (arith, between-true (code "0") (getD s at 0) (code "9") here))) false (decimal-low (getD s at 0) here) (lit≤ tt)
-    ∙ ap more (run-of s n (at + 1) end (omega (arith, e)) (λ p l h. all p (omega arith) h) d u)
+    ∙ ap longerRun (run-of s n (at + 1) end (omega (arith, e)) (λ p l h. all p (omega arith) h) d u)
 
 -- a character that a number may go on with: a digit, a letter, an underscore, a point
 abbrev pub goesOn : ℕ → Bool

@@ -19,7 +19,7 @@ use Rattle.errors.specs.Numbers.{BAD-BINARY, BAD-OCTAL, BAD-HEXADECIMAL, MISPLA
 use Rattle.digits.specs.Digit.{digitVal, isDecimal}
 use Rattle.numbers.specs.declared.Spelling.{Spelling}
 use Rattle.numbers.specs.declared.Spelling.the-variants.{AsRead, LowerPrefix, OctalPrefix, LowerExponent}
-use Rattle.numbers.specs.Run.{Run, stop, more, digitRun, strictRun}
+use Rattle.numbers.specs.Run.{Run, endOfRun, longerRun, digitRun, strictRun}
 use Rattle.numbers.proofs.Runs.{digit-from}
 use Rattle.numbers.specs.Number.{Numeral, afterChars, illegal, good, exponentDigits, exponent, finish, fraction, decimalRest, decimal, prefixed, bareZero, leadingZero, withoutI, number}
 
@@ -37,13 +37,13 @@ run-local base b u [] t h = absurd h
 run-local base b u (c ∷ r) t h = go (ltb (digitVal (c .code)) base) (eqb (c .code) (code "_")) u refl refl (λ v. run-local base b v r t)
   where
     go : (x y v : Bool) → ltb (digitVal (c .code)) base ≡ x → eqb (c .code) (code "_") ≡ y → ((w : Bool) → Ends r → (digitRun base w (r ++ t) ≡ digitRun base w r) × (digitRun base w r .len < length r))
-        → (cond x (more (digitRun base false (r ++ t))) (cond y (cond v (stop true) (more (digitRun base true (r ++ t)))) (stop v))
-        ≡ cond x (more (digitRun base false r)) (cond y (cond v (stop true) (more (digitRun base true r))) (stop v)))
-        × (cond x (more (digitRun base false r)) (cond y (cond v (stop true) (more (digitRun base true r))) (stop v)) .len < suc (length r))
-    go true y v d e ih = let q = ih false (ends-tail c r h (no-feed c base b d)) in (ap more (q .0), omega (arith, q .1))
+        → (cond x (longerRun (digitRun base false (r ++ t))) (cond y (cond v (endOfRun true) (longerRun (digitRun base true (r ++ t)))) (endOfRun v))
+        ≡ cond x (longerRun (digitRun base false r)) (cond y (cond v (endOfRun true) (longerRun (digitRun base true r))) (endOfRun v)))
+        × (cond x (longerRun (digitRun base false r)) (cond y (cond v (endOfRun true) (longerRun (digitRun base true r))) (endOfRun v)) .len < suc (length r))
+    go true y v d e ih = let q = ih false (ends-tail c r h (no-feed c base b d)) in (ap longerRun (q .0), omega (arith, q .1))
     go false true true d e ih = (refl, omega arith)
     go false true false d e ih =
-        let q = ih true (ends-tail c r h (λ z. omega (arith, eqb-true (c .code) (code "_") e))) in (ap more (q .0), omega (arith, q .1))
+        let q = ih true (ends-tail c r h (λ z. omega (arith, eqb-true (c .code) (code "_") e))) in (ap longerRun (q .0), omega (arith, q .1))
     go false false v d e ih = (refl, omega arith)
 
 strict-local : (base : ℕ) → base ≤ 16 → (r t : List Char) → Ends r → RunLocal (strictRun base) r t
@@ -52,8 +52,8 @@ strict-local base b [] t h = absurd h
 strict-local base b (c ∷ r) t h = go (eqb (c .code) (code "_")) (unfold RunLocal in run-local base b false (c ∷ r) t h)
   where
     go : (x : Bool) → (digitRun base false (c ∷ (r ++ t)) ≡ digitRun base false (c ∷ r)) × (digitRun base false (c ∷ r) .len < suc (length r))
-        → (cond x (stop true) (digitRun base false (c ∷ (r ++ t))) ≡ cond x (stop true) (digitRun base false (c ∷ r)))
-        × (cond x (stop true) (digitRun base false (c ∷ r)) .len < suc (length r))
+        → (cond x (endOfRun true) (digitRun base false (c ∷ (r ++ t))) ≡ cond x (endOfRun true) (digitRun base false (c ∷ r)))
+        × (cond x (endOfRun true) (digitRun base false (c ∷ r)) .len < suc (length r))
     go true q = (refl, omega arith)
     go false q = q
 

@@ -20,28 +20,28 @@ use Rattle.utf8.proofs.First.{chars-at, chars-end, chars-ascii}
 use Rattle.utf8.proofs.Places.{code-there, ascii-place}
 use Rattle.digits.specs.Digit.{digitVal}
 use Rattle.digits.proofs.Digits.{digit-low, digit-there}
-use Rattle.numbers.specs.Run.{Run, stop, more, digitRun, strictRun}
+use Rattle.numbers.specs.Run.{Run, endOfRun, longerRun, digitRun, strictRun}
 use Rattle.numbers.specs.Steps.{digitsAt}
 
 -- one character on from a place
-pub digits-more : (p : ℕ) (d : Run) → digitsAt p (more d) ≡ digitsAt (p + 1) d
+pub digits-more : (p : ℕ) (d : Run) → digitsAt p (longerRun d) ≡ digitsAt (p + 1) d
 digits-more p d = let e : p + suc (d .len) ≡ p + 1 + d .len = omega arith in rw e
 
-pub digits-stop : (p : ℕ) (u : Bool) → digitsAt p (stop u) ≡ record { end = p; misplaced = u }
+pub digits-stop : (p : ℕ) (u : Bool) → digitsAt p (endOfRun u) ≡ record { end = p; misplaced = u }
 digits-stop p u = rw (add-zero p)
 
 module _ (base : ℕ) (s : List ℕ) (p : ℕ) where
-  pub run-end : (u : Bool) → length s ≤ p → digitRun base u (chars (drop p s)) ≡ stop u
+  pub run-end : (u : Bool) → length s ≤ p → digitRun base u (chars (drop p s)) ≡ endOfRun u
   unfolding digitRun
   run-end u h = rw (chars-end s p h)
 
   module _ (h : p < length s) where
-    pub run-digit : (u : Bool) → digitVal (getD s p 0) < base → base ≤ 16 → digitRun base u (chars (drop p s)) ≡ more (digitRun base false (chars (drop (p + 1) s)))
+    pub run-digit : (u : Bool) → digitVal (getD s p 0) < base → base ≤ 16 → digitRun base u (chars (drop p s)) ≡ longerRun (digitRun base false (chars (drop (p + 1) s)))
     unfolding digitRun
     run-digit u d l = rw (chars-ascii s p h (digit-low (getD s p 0) (omega arith)), lt-ltb _ _ d)
 
     module _ (d : base ≤ digitVal (getD s p 0)) where
-      pub run-other : (u : Bool) → (getD s p 0 ≡ code "_" → ⊥) → digitRun base u (chars (drop p s)) ≡ stop u
+      pub run-other : (u : Bool) → (getD s p 0 ≡ code "_" → ⊥) → digitRun base u (chars (drop p s)) ≡ endOfRun u
       unfolding digitRun
       run-other u e = rw (chars-at s p h, digit-there s p h, le-ltb _ _ d, code-there s p (code "_") h (lit< tt), ne-eqb _ _ e)
 
@@ -49,17 +49,17 @@ module _ (base : ℕ) (s : List ℕ) (p : ℕ) where
         under-low : getD s p 0 < 0x80
         under-low = omega arith
 
-        pub run-under : digitRun base false (chars (drop p s)) ≡ more (digitRun base true (chars (drop (p + 1) s)))
+        pub run-under : digitRun base false (chars (drop p s)) ≡ longerRun (digitRun base true (chars (drop (p + 1) s)))
         unfolding digitRun
         run-under = rw (chars-ascii s p h under-low, le-ltb _ _ d, eq-eqb _ _ e)
 
-        pub run-double : digitRun base true (chars (drop p s)) ≡ stop true
+        pub run-double : digitRun base true (chars (drop p s)) ≡ endOfRun true
         unfolding digitRun
         run-double = rw (chars-ascii s p h under-low, le-ltb _ _ d, eq-eqb _ _ e)
 
 -- where no underscore may stand first
 module _ (base : ℕ) (s : List ℕ) (p : ℕ) where
-  pub strict-under : getD s p 0 ≡ code "_" → strictRun base (chars (drop p s)) ≡ stop true
+  pub strict-under : getD s p 0 ≡ code "_" → strictRun base (chars (drop p s)) ≡ endOfRun true
   unfolding strictRun
   strict-under e = let h = reach s p (omega arith) in rw (chars-at s p h, code-there s p (code "_") h (lit< tt), eq-eqb _ _ e)
 
@@ -120,7 +120,7 @@ run-plain base b u (c ∷ r) =
     under : (n : ℕ) → c .code ≡ code "_" → Plain n r → Plain (suc n) (c ∷ r)
     under n e f = plain-more n c r (omega arith) (omega arith) (λ z. omega arith) f
 
-strict-is : (P : Run → Type 0) (base : ℕ) (r : List Char) → P (stop true) → P (digitRun base false r) → P (strictRun base r)
+strict-is : (P : Run → Type 0) (base : ℕ) (r : List Char) → P (endOfRun true) → P (digitRun base false r) → P (strictRun base r)
 unfolding strictRun digitRun
 strict-is P base [] f g = g
 strict-is P base (c ∷ r) f g = cond-ind P (eqb (c .code) (code "_")) _ _ (λ _. f) (λ _. g)

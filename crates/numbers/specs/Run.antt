@@ -13,21 +13,21 @@ pub record Run : Type 0 where
   pub misplaced : Bool
 
 -- nothing more is read
-abbrev pub stop : Bool → Run
-stop misplaced = record { len = 0; misplaced = misplaced }
+abbrev pub endOfRun : Bool → Run
+endOfRun misplaced = record { len = 0; misplaced = misplaced }
 
 -- one character before
-abbrev pub more : Run → Run
-more d = record { len = suc (d .len); misplaced = d .misplaced }
+abbrev pub longerRun : Run → Run
+longerRun d = record { len = suc (d .len); misplaced = d .misplaced }
 
 -- the longest run of digits below the base and single underscores; `under`: the character before it is an underscore
 unfoldable pub digitRun : ℕ → Bool → List Char → Run
-digitRun base under [] = stop under
+digitRun base under [] = endOfRun under
 digitRun base under (c ∷ r) =
-    cond (ltb (digitVal (c .code)) base) (more (digitRun base false r))
-    (cond (eqb (c .code) (code "_")) (cond under (stop true) (more (digitRun base true r))) (stop under))
+    cond (ltb (digitVal (c .code)) base) (longerRun (digitRun base false r))
+    (cond (eqb (c .code) (code "_")) (cond under (endOfRun true) (longerRun (digitRun base true r))) (endOfRun under))
 
 -- the same where no underscore may stand first
 unfoldable pub strictRun : ℕ → List Char → Run
-strictRun base [] = stop false
-strictRun base (c ∷ r) = cond (eqb (c .code) (code "_")) (stop true) (digitRun base false (c ∷ r))
+strictRun base [] = endOfRun false
+strictRun base (c ∷ r) = cond (eqb (c .code) (code "_")) (endOfRun true) (digitRun base false (c ∷ r))

@@ -1,5 +1,5 @@
 -- What opening comes to, case by case.
-use Prim.Native.Nat.{ℕ, _≤_, _<_}
+use Prim.Native.Nat.{ℕ, _+_, _≤_, _<_}
 use mathlib.Core.Path.{_≡_, refl, ap}
 use mathlib.Core.Bool.{Bool, true, false, cond, and-false}
 use mathlib.Core.List.{List}
@@ -10,10 +10,9 @@ use borrow.Author.Tests.{le-leb, lt-leb, lt-ltb, le-ltb}
 use Rattle.utf8.specs.Chars.{chars, wellFormed, bytesBefore}
 use Rattle.validation.specs.Answers.{Checking, valid, notUtf8, checkedOf}
 use Rattle.refusal.specs.Outcome.{gave}
-use Rattle.position.specs.Place.{inRange}
-use Rattle.state.specs.Fits.{fileOf}
+use Rattle.position.specs.Place.{maxPosition, inRange}
 use Rattle.state.specs.State.{fresh}
-use Rattle.opening.specs.Opening.{maxSource, refusedWith, begunOf, openOf}
+use Rattle.opening.specs.Opening.{maxSource, openRefused, begunOf, openOf}
 
 -- the two answers of a check, taken apart
 valid-split : (t : Bool) (m place : ℕ) {n : ℕ} → valid n ≡ cond t (valid m) (notUtf8 place) → (t ≡ true) × (m ≡ n)
@@ -26,30 +25,30 @@ bad-split false m place e = let o = ap (λ (x : Checking). x .place) e in (refl,
 
 module _ (base size : ℕ) (table : List ℕ) where
   module _ (n : ℕ) where
-    pub begin-small : size < n → begunOf n base size table ≡ refusedWith 3 none table
+    pub begin-small : size < n → begunOf n base size table ≡ openRefused 3 none table
     begin-small h = rw (lt-leb _ _ h)
 
-    pub begin-unplaced : inRange (fileOf (fresh base size)) ≡ false → begunOf n base size table ≡ refusedWith 3 none table
-    unfolding fresh
-    begin-unplaced h = rw (h, and-false)
+    pub begin-high : maxPosition < base + size → begunOf n base size table ≡ openRefused 3 none table
+    unfolding inRange
+    begin-high h = rw (lt-leb _ _ h, and-false)
 
-    module _ (h : n ≤ size) (g : inRange (fileOf (fresh base size)) ≡ true) where
-      pub begin-full : length table ≡ 0 → begunOf n base size table ≡ refusedWith 7 none table
-      unfolding fresh
-      begin-full z = rw (le-leb _ _ h, g, z)
+    module _ (h : n ≤ size) (g : base + size ≤ maxPosition) where
+      pub begin-full : length table ≡ 0 → begunOf n base size table ≡ openRefused 7 none table
+      unfolding inRange
+      begin-full z = rw (le-leb _ _ h, le-leb _ _ g, z)
 
       pub begin-ready : (length table ≡ 0 → ⊥) → begunOf n base size table
           ≡ record { table = set table 0 0; outcome = gave (record { state = fresh base size; chars = n }); place = none }
-      unfolding fresh
-      begin-ready z = rw (le-leb _ _ h, g, le-ltb (length table) 1 (omega arith))
+      unfolding fresh inRange
+      begin-ready z = rw (le-leb _ _ h, le-leb _ _ g, le-ltb (length table) 1 (omega arith))
 
   module _ (src : List ℕ) where
-    pub open-long : maxSource < length src → openOf src base size table ≡ refusedWith 2 none table
+    pub open-long : maxSource < length src → openOf src base size table ≡ openRefused 2 none table
     unfolding openOf
     open-long h = rw (lt-ltb _ _ h)
 
     module _ (short : length src ≤ maxSource) where
-      pub open-bad : {at : ℕ} → notUtf8 at ≡ checkedOf src → openOf src base size table ≡ refusedWith 1 (some at) table
+      pub open-bad : {at : ℕ} → notUtf8 at ≡ checkedOf src → openOf src base size table ≡ openRefused 1 (some at) table
       unfolding openOf
       open-bad e =
           let b = bad-split (wellFormed src) (length (chars src)) (bytesBefore (chars src)) e in

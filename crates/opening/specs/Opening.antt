@@ -29,8 +29,8 @@ pub record Opening : Type 0 where
   pub outcome : Outcome Begun
   pub place : Option ℕ
 
-abbrev pub refusedWith : ℕ → Option ℕ → List ℕ → Opening
-refusedWith number place table = record { table = table; outcome = refused number; place = place }
+abbrev pub openRefused : ℕ → Option ℕ → List ℕ → Opening
+openRefused number place table = record { table = table; outcome = refused number; place = place }
 
 -- "The size is at least n; base + size is at most 4,294,967,295."
 abbrev pub sized : ℕ → ℕ → ℕ → Bool
@@ -39,15 +39,15 @@ sized n base size = leb n size && inRange (record { base = base; size = size; li
 -- "Opening checks 2, 1, 3, 7": the last two, for a text of n characters
 abbrev pub begunOf : ℕ → ℕ → ℕ → List ℕ → Opening
 begunOf n base size table =
-    cond (not (sized n base size)) (refusedWith BAD-SIZE none table)
-    (cond (ltb (length table) 1) (refusedWith TABLE-FULL none table)
+    cond (not (sized n base size)) (openRefused BAD-SIZE none table)
+    (cond (ltb (length table) 1) (openRefused TABLE-FULL none table)
     (record { table = set table 0 0; outcome = gave (record { state = fresh base size; chars = n }); place = none }))
 
 -- all four
 unfoldable pub openOf : List ℕ → ℕ → ℕ → List ℕ → Opening
 openOf src base size table =
-    cond (ltb maxSource (length src)) (refusedWith TOO-LONG none table)
-    (cond (not (wellFormed src)) (refusedWith NOT-UTF8 (some (bytesBefore (chars src))) table)
+    cond (ltb maxSource (length src)) (openRefused TOO-LONG none table)
+    (cond (not (wellFormed src)) (openRefused NOT-UTF8 (some (bytesBefore (chars src))) table)
     (begunOf (length (chars src)) base size table))
 
 -- what each answer of opening comes to

@@ -18,13 +18,16 @@ fn begin(chars: usize, base: usize, size: usize, table: &mut [usize]) -> Opened
     if chars > size {
         return Opened::Refused(refusal::BAD_SIZE);
     }
-    let state = State::new(base, size);
-    if !state.file().in_range() {
+    if base > State::MAX_POSITION {
+        return Opened::Refused(refusal::BAD_SIZE);
+    }
+    if size > State::MAX_POSITION - base {
         return Opened::Refused(refusal::BAD_SIZE);
     }
     if table.len() == 0 {
         return Opened::Refused(refusal::TABLE_FULL);
     }
+    let state = State::new(base, size);
     table[0] = 0;
     Opened::Ready { state, chars }
 }

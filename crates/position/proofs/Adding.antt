@@ -16,7 +16,7 @@ use Rattle.refusal.proofs.Outcomes.{refused-gave}
 use Rattle.position.specs.declared.File.{File}
 use Rattle.position.specs.Lines.{lineStart, StrictlyRising}
 use Rattle.position.specs.Place.{fitting, starts}
-use Rattle.position.specs.Adding.{After, starting, addLine}
+use Rattle.position.specs.Adding.{AddLineLeft, starting, addLine}
 use Rattle.position.proofs.Lines.{rising-snoc}
 use Rattle.position.proofs.Place.{Fit, fit, last-start}
 
@@ -58,7 +58,7 @@ module _ (f : File) (table : List ℕ) (o : ℕ) where
     add-one-more s h = rw (e, s, ne-eqb _ _ h)
 
 -- the three cases: refused and nothing changed, nothing to record, one start more
-pub data Adds (f : File) (table : List ℕ) (o : ℕ) : After → Type 0 where
+pub data Adds (f : File) (table : List ℕ) (o : ℕ) : AddLineLeft → Type 0 where
   left : (n : ℕ) → Adds f table o (record { table = table; outcome = refused n })
   same : Fit f table → starting f table o ≡ false → Adds f table o (record { table = table; outcome = gave (f .lines) })
   more : Fit f table → starting f table o ≡ true → f .lines < length table
@@ -92,18 +92,18 @@ pub set-starts : (f : File) (table : List ℕ) (o : ℕ) → f .lines < length t
 set-starts f table o h = rw (add-one, take-suc-set)
 
 module _ {f : File} {table : List ℕ} {o : ℕ} where
-  kept-length : {x : After} → Adds f table o x → length (x .table) ≡ length table
+  kept-length : {x : AddLineLeft} → Adds f table o x → length (x .table) ≡ length table
   kept-length (left m) = refl
   kept-length (same k s) = refl
   kept-length (more k s room) = length-set table (f .lines) o
 
-  kept-starts : {x : After} → Adds f table o x → take (f .lines) (x .table) ≡ starts f table
+  kept-starts : {x : AddLineLeft} → Adds f table o x → take (f .lines) (x .table) ≡ starts f table
   kept-starts (left m) = refl
   kept-starts (same k s) = refl
   kept-starts (more k s room) = take-set-le (f .lines) table (f .lines) o (omega arith)
 
   module _ {n : ℕ} where
-    fit-after : {x : After} → Adds f table o x → x .outcome ≡ gave n → Fit (withLines f n) (x .table)
+    fit-after : {x : AddLineLeft} → Adds f table o x → x .outcome ≡ gave n → Fit (withLines f n) (x .table)
     fit-after (left m) e = refused-gave e
     fit-after (same k s) e =
         let z : f .lines ≡ n = cc in
@@ -117,12 +117,12 @@ module _ {f : File} {table : List ℕ} {o : ℕ} where
           first = getD-set-other table (f .lines) 0 o 0 (λ q. omega (arith, k .some)) ∙ k .first;
         }
 
-    starts-after : {x : After} → Adds f table o x → x .outcome ≡ gave n → take n (x .table) ≡ cond (starting f table o) (starts f table ++ (o ∷ [])) (starts f table)
+    starts-after : {x : AddLineLeft} → Adds f table o x → x .outcome ≡ gave n → take n (x .table) ≡ cond (starting f table o) (starts f table ++ (o ∷ [])) (starts f table)
     starts-after (left m) e = refused-gave e
     starts-after (same k s) e = let z : n ≡ f .lines = cc in rw (z, s)
     starts-after (more k s room) e = let z : n ≡ f .lines + 1 = cc in rw (z, s, set-starts f table o room)
 
-    rising-after : {x : After} → StrictlyRising (starts f table) → Adds f table o x → x .outcome ≡ gave n → StrictlyRising (take n (x .table))
+    rising-after : {x : AddLineLeft} → StrictlyRising (starts f table) → Adds f table o x → x .outcome ≡ gave n → StrictlyRising (take n (x .table))
     rising-after r (left m) e = refused-gave e
     rising-after r (same k s) e = let z : n ≡ f .lines = cc in rw z r
     rising-after r (more k s room) e =

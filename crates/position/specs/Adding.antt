@@ -11,7 +11,7 @@ use Rattle.position.specs.Lines.{lineStart, isRecorded}
 use Rattle.position.specs.Place.{fitting}
 
 -- what a call leaves in the table, and its outcome: the count of lines
-pub record After : Type 0 where
+pub record AddLineLeft : Type 0 where
   pub table : List ℕ
   pub outcome : Outcome ℕ
 
@@ -20,7 +20,7 @@ unfoldable pub starting : File → List ℕ → ℕ → Bool
 starting f table o = isRecorded (lineStart table (f .lines)) (f .size) o
 
 -- such an offset is written after the starts, where there is room
-unfoldable pub addLine : File → List ℕ → ℕ → After
+unfoldable pub addLine : File → List ℕ → ℕ → AddLineLeft
 addLine f table o =
     cond (fitting f table)
     (cond (starting f table o)

@@ -7,9 +7,9 @@ use Rattle.position.specs.declared.Answer.the-variants.{Gave, Refused}
 use Rattle.position.specs.declared.Located.{Located}
 use Rattle.position.specs.declared.Located.the-variants.{At, Refused as NotLocated}
 
-abbrev pub outcome : Answer → Outcome ℕ
-outcome (Gave n) = gave n
-outcome (Refused n) = refused n
+abbrev pub answerOutcome : Answer → Outcome ℕ
+answerOutcome (Gave n) = gave n
+answerOutcome (Refused n) = refused n
 
 abbrev pub located : Located → Outcome Position
 located (At p) = gave p

@@ -2,7 +2,7 @@
 ghost use mathlib.Core.Path.{_≡_};
 ghost use Rattle.position.specs.Lines.{lineOf};
 ghost use Rattle.position.specs.Place.{inRange, fitting};
-ghost use Rattle.position.specs.Answers.{outcome, located};
+ghost use Rattle.position.specs.Answers.{answerOutcome, located};
 ghost use Rattle.position.specs.Queries.{posOf, positionOf, lineStartOf};
 ghost use Rattle.position.specs.Adding.{addLine};
 
@@ -77,7 +77,7 @@ impl File {
 
     // The position of an offset.
     pub fn pos(self, offset: usize) -> Answer
-        ensures { λ r. ⌜ outcome r ≡ posOf self offset ⌝ }
+        ensures { λ r. ⌜ answerOutcome r ≡ posOf self offset ⌝ }
     {
         if !self.in_range() {
             return Answer::Refused(refusal::DOES_NOT_FIT);
@@ -116,7 +116,7 @@ impl File {
 
     // The position at which a line starts, in a text that has been read up to the offset.
     pub fn line_start(self, table: &[usize], line: usize, offset: usize) -> Answer
-        ensures { λ r. ⌜ outcome r ≡ lineStartOf self (now (table .entry)) line offset ⌝ }
+        ensures { λ r. ⌜ answerOutcome r ≡ lineStartOf self (now (table .entry)) line offset ⌝ }
     {
         if !self.fits(table) {
             return Answer::Refused(refusal::DOES_NOT_FIT);
@@ -140,7 +140,7 @@ impl File {
 
     // The number of lines after a line start was read: it is recorded if it is above the last one and below the size.
     pub fn add_line(self, table: &mut [usize], offset: usize) -> Answer
-        ensures { λ r. ⌜ record { table = now (table .exit); outcome = outcome r } ≡ addLine self (now (table .entry)) offset ⌝ }
+        ensures { λ r. ⌜ record { table = now (table .exit); outcome = answerOutcome r } ≡ addLine self (now (table .entry)) offset ⌝ }
     {
         let lines = self.lines;
         if !self.fits(table) {

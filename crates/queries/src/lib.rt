@@ -1,7 +1,7 @@
 // Questions about a text that is being scanned.
 use state::State;
 ghost use mathlib.Core.Path.{_≡_};
-ghost use Rattle.position.specs.Answers.{outcome, located};
+ghost use Rattle.position.specs.Answers.{answerOutcome, located};
 ghost use Rattle.errors.specs.Answers.{got};
 ghost use Rattle.queries.specs.Queries.{positionIn, lineStartIn, errorIn};
 
@@ -17,7 +17,7 @@ pub fn position(state: State, table: &[usize], p: usize) -> position::Located
 
 // The position at which a line starts.
 pub fn line_start(state: State, table: &[usize], line: usize) -> position::Answer
-    ensures { λ r. ⌜ outcome r ≡ lineStartIn state (now (table .entry)) line ⌝ }
+    ensures { λ r. ⌜ answerOutcome r ≡ lineStartIn state (now (table .entry)) line ⌝ }
 {
     if !state.fits_lines(table) {
         return position::Answer::Refused(refusal::DOES_NOT_FIT);

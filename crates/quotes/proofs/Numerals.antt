@@ -16,7 +16,7 @@ use Rattle.errors.specs.Numbers.{CUT-ESCAPE, BAD-ESCAPE}
 use Rattle.digits.specs.Digit.{digitVal}
 use Rattle.digits.proofs.Digits.{digit-low, digit-there}
 use Rattle.quotes.specs.declared.numeral.Numeral.{Numeral}
-use Rattle.quotes.specs.Numeral.{stop, more, numeral}
+use Rattle.quotes.specs.Numeral.{endOfNumeral, longerNumeral, numeral}
 
 -- n digits before
 abbrev pub grown : ℕ → Numeral → Numeral
@@ -25,10 +25,10 @@ grown n d = record { value = d .value; len = n + d .len; error = d .error }
 grown-none : (d : Numeral) → d ≡ grown 0 d
 grown-none d = rw (zero-add (d .len))
 
-pub grown-more : (n : ℕ) (d : Numeral) → grown n (more d) ≡ grown (n + 1) d
+pub grown-more : (n : ℕ) (d : Numeral) → grown n (longerNumeral d) ≡ grown (n + 1) d
 grown-more n d = let e : n + suc (d .len) ≡ n + 1 + d .len = omega arith in rw e
 
-pub grown-stop : (n v e : ℕ) → grown n (stop v e) ≡ record { value = v; len = n; error = e }
+pub grown-stop : (n v e : ℕ) → grown n (endOfNumeral v e) ≡ record { value = v; len = n; error = e }
 grown-stop n v e = rw (add-zero n)
 
 -- the digits that are left after the first so many of them
@@ -41,7 +41,7 @@ none-read base count s at =
     rw (whole, add-zero at) (grown-none (numeral base count 0 (chars (drop at s))))
 
 module _ (base count : ℕ) (s : List ℕ) (at len v : ℕ) where
-  pub all-read : count ≤ len → left-of base count s at len v ≡ stop v 0
+  pub all-read : count ≤ len → left-of base count s at len v ≡ endOfNumeral v 0
   unfolding numeral
   all-read h = let none : count - len ≡ 0 = omega arith in rw none
 
@@ -49,17 +49,17 @@ module _ (base count : ℕ) (s : List ℕ) (at len v : ℕ) where
     one-less : count - len ≡ suc (count - (len + 1))
     one-less = omega arith
 
-    pub next-cut : length s ≤ at + len → left-of base count s at len v ≡ stop v CUT-ESCAPE
+    pub next-cut : length s ≤ at + len → left-of base count s at len v ≡ endOfNumeral v CUT-ESCAPE
     unfolding numeral
     next-cut h = rw (one-less, chars-end s (at + len) h)
 
     module _ (h : at + len < length s) where
-      pub next-off : base ≤ digitVal (getD s (at + len) 0) → left-of base count s at len v ≡ stop v BAD-ESCAPE
+      pub next-off : base ≤ digitVal (getD s (at + len) 0) → left-of base count s at len v ≡ endOfNumeral v BAD-ESCAPE
       unfolding numeral
       next-off d = rw (one-less, chars-at s (at + len) h, digit-there s (at + len) h, le-ltb _ _ d)
 
       pub next-digit : digitVal (getD s (at + len) 0) < base → base ≤ 16
-          → left-of base count s at len v ≡ more (left-of base count s at (len + 1) (v * base + digitVal (getD s (at + len) 0)))
+          → left-of base count s at len v ≡ longerNumeral (left-of base count s at (len + 1) (v * base + digitVal (getD s (at + len) 0)))
       unfolding numeral
       next-digit d l =
           let place : at + (len + 1) ≡ at + len + 1 = omega arith in

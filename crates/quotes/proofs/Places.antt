@@ -21,7 +21,7 @@ use Rattle.quotes.specs.declared.Quoted.{Quoted}
 use Rattle.quotes.specs.Answers.{character, noCharacter, Escape, bytesOf}
 use Rattle.quotes.specs.Escape.{escapeOf}
 use Rattle.quotes.specs.Body.{Body, ends, plain, escape, bodyFrom, body, bodyAt, quotedAt}
-use Rattle.quotes.specs.Steps.{nothing, added, escapePiece, charPiece, plainPiece, stopped}
+use Rattle.quotes.specs.Steps.{emptyBody, added, escapePiece, charPiece, plainPiece, bodyEnd}
 use Rattle.quotes.proofs.Reading.{escape-rest, at-quote, at-lf, at-slash, at-plain}
 use Rattle.quotes.proofs.Bounds.{Fresh}
 use Rattle.quotes.proofs.Heads.{escape-bound, escape-widths}
@@ -44,14 +44,14 @@ joined q x =
 
 -- at the start nothing was read
 pub joined-start : (at : ℕ) (x : Quoted)
-    → x ≡ joined (nothing at) x
+    → x ≡ joined (emptyBody at) x
 unfolding joined
 joined-start at x = rw (zero-add (x .chars), zero-add (x .count), zero-add (x .strays), zero-add (x .bytes))
 
 -- ---- the end
 pub joined-ends : (q : Quoted) (p n end : ℕ) (closed : Bool) (error : ℕ) (r : List Char) → Fresh q → p + widths (take n r) ≡ end
-    → stopped q end n closed error ≡ joined q (bodyAt p r (ends n closed error))
-unfolding stopped joined bodyAt
+    → bodyEnd q end n closed error ≡ joined q (bodyAt p r (ends n closed error))
+unfolding bodyEnd joined bodyAt
 joined-ends q p n end closed error r f e = rw (e, f, or-false (q .escaped), add-zero (q .count), add-zero (q .strays), add-zero (q .bytes))
 
 -- ---- one character more
@@ -108,16 +108,16 @@ escape-fits quote s p x h e =
 
 -- ---- one step at the place p
 module _ (quote : ℕ) (low : quote < 0x80) (s : List ℕ) (p : ℕ) (q : Quoted) where
-  pub step-end : Fresh q → length s ≤ p → stopped q p 0 false OPEN-QUOTE ≡ joined q (quotedAt quote s p)
+  pub step-end : Fresh q → length s ≤ p → bodyEnd q p 0 false OPEN-QUOTE ≡ joined q (quotedAt quote s p)
   unfolding bodyFrom
   step-end f h = rw (chars-end s p h) (joined-ends q p 0 p false OPEN-QUOTE [] f (add-zero p))
 
   module _ (h : p < length s) where
-    pub step-quote : Fresh q → getD s p 0 ≡ quote → stopped q (p + 1) 1 true 0 ≡ joined q (quotedAt quote s p)
+    pub step-quote : Fresh q → getD s p 0 ≡ quote → bodyEnd q (p + 1) 1 true 0 ≡ joined q (quotedAt quote s p)
     step-quote f e = rw (at-quote quote low s p h e, chars-ascii s p h (omega arith)) (joined-ends q p 1 (p + 1) true 0 _ f refl)
 
     module _ (no-quote : getD s p 0 ≡ quote → ⊥) where
-      pub step-lf : Fresh q → getD s p 0 ≡ 10 → stopped q p 0 false OPEN-QUOTE ≡ joined q (quotedAt quote s p)
+      pub step-lf : Fresh q → getD s p 0 ≡ 10 → bodyEnd q p 0 false OPEN-QUOTE ≡ joined q (quotedAt quote s p)
       step-lf f e = rw (at-lf quote low s p h no-quote e) (joined-ends q p 0 p false OPEN-QUOTE _ f (add-zero p))
 
       -- after a backslash
@@ -128,7 +128,7 @@ module _ (quote : ℕ) (low : quote < 0x80) (s : List ℕ) (p : ℕ) (q : Quoted
         widths-are : widths (take (x .len) (chars (drop (p + 1) s))) ≡ x .len
         widths-are = rw is (escape-widths quote s (p + 1) low)
 
-        pub step-bad : (error : ℕ) → Fresh q → x .meaning ≡ noCharacter error → stopped q (p + (x .len + 1)) (x .len + 1) false error ≡ joined q (quotedAt quote s p)
+        pub step-bad : (error : ℕ) → Fresh q → x .meaning ≡ noCharacter error → bodyEnd q (p + (x .len + 1)) (x .len + 1) false error ≡ joined q (quotedAt quote s p)
         step-bad error f g =
             rw (at-slash quote low s p h no-quote slash x is, g, first-is, add-one (x .len))
             (joined-ends q p (suc (x .len)) (p + suc (x .len)) false error (ascii (getD s p 0) ∷ chars (drop (p + 1) s)) f (omega (arith, widths-are)))

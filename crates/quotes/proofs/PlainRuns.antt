@@ -15,7 +15,7 @@ use Rattle.basics.proofs.Lists.{drop-next}
 use Rattle.quotes.specs.declared.Quoted.{Quoted}
 use Rattle.quotes.specs.Body.{quotedAt}
 use Rattle.quotes.specs.Plain.{isPlainByte, plainLen}
-use Rattle.quotes.specs.Steps.{nothing, added, plainPiece, stopped}
+use Rattle.quotes.specs.Steps.{emptyBody, added, plainPiece, bodyEnd}
 use Rattle.quotes.proofs.Places.{joined, joined-start, step-quote, step-ascii}
 
 -- ---- such a byte
@@ -121,21 +121,21 @@ closedAt p n code =
 
 module _ (quote : ℕ) (low : quote < 0x80) (s : List ℕ) (p : ℕ) where
   none-closed : p < length s → getD s p 0 ≡ quote → closedAt p 0 0 ≡ quotedAt quote s p
-  unfolding stopped
-  none-closed h f = rw (add-zero p) (step-quote quote low s p (nothing p) h refl f ∙ sym (joined-start p (quotedAt quote s p)))
+  unfolding bodyEnd
+  none-closed h f = rw (add-zero p) (step-quote quote low s p (emptyBody p) h refl f ∙ sym (joined-start p (quotedAt quote s p)))
 
   some-closed : (n : ℕ) → suc n ≡ plainLen quote (drop p s) → p + suc n < length s → getD s (p + suc n) 0 ≡ quote → isPlainByte quote (getD s p 0) ≡ true
       → closedAt p (suc n) (getD s p 0) ≡ quotedAt quote s p
-  unfolding stopped added
+  unfolding bodyEnd added
   some-closed n e h f t =
       let b = getD s p 0 in
       let there : p < length s = omega arith in
       let y = plain-is quote b t in
-      let run = step-run quote low s (nothing p) p (suc n) (e ∙ plain-next quote s p there t) there (y .no-quote) (y .no-lf) (y .no-slash) (y .low) in
+      let run = step-run quote low s (emptyBody p) p (suc n) (e ∙ plain-next quote s p there t) there (y .no-quote) (y .no-lf) (y .no-slash) (y .low) in
       let z : suc n ≡ 0 + suc n = omega arith in
       let fresh : cond (eqb (0 + suc n) 0) 0 b ≡ b = rw (ne-eqb (0 + suc n) 0 (λ e. omega arith)) in
       (λ i. record { end = p + suc n + 1; chars = z i + 1; closed = true; error = 0; count = z i; code = b; escaped = false; strays = 0; bytes = z i })
-      ∙ step-quote quote low s (p + suc n) (added (nothing p) (plainPiece (suc n) b)) h fresh f
+      ∙ step-quote quote low s (p + suc n) (added (emptyBody p) (plainPiece (suc n) b)) h fresh f
       ∙ sym run ∙ sym (joined-start p (quotedAt quote s p))
 
   pub run-closed : (n : ℕ) → n ≡ plainLen quote (drop p s) → p + n < length s → getD s (p + n) 0 ≡ quote

@@ -13,7 +13,7 @@ doubleQuote = code "\""
 abbrev pub singleQuote : ℕ
 singleQuote = code "'"
 
--- a string: its body's error
+-- a closed string is a STRING, any other is ILLEGAL; its error is its body's
 abbrev pub stringKind : Body → ℕ
 stringKind b = cond (b .closed) STRING ILLEGAL
 

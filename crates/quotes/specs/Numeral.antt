@@ -9,16 +9,16 @@ use Rattle.digits.specs.Digit.{digitVal}
 use Rattle.quotes.specs.declared.numeral.Numeral.{Numeral}
 
 -- no more digits are read
-abbrev pub stop : ℕ → ℕ → Numeral
-stop value error = record { value = value; len = 0; error = error }
+abbrev pub endOfNumeral : ℕ → ℕ → Numeral
+endOfNumeral value error = record { value = value; len = 0; error = error }
 
 -- one digit before
-abbrev pub more : Numeral → Numeral
-more n = record { value = n .value; len = suc (n .len); error = n .error }
+abbrev pub longerNumeral : Numeral → Numeral
+longerNumeral n = record { value = n .value; len = suc (n .len); error = n .error }
 
 -- exactly so many digits below the base, after digits of the value given: an error where the end cuts them, and where another character stands
 unfoldable pub numeral : ℕ → ℕ → ℕ → List Char → Numeral
-numeral base zero value r = stop value 0
-numeral base (suc n) value [] = stop value CUT-ESCAPE
+numeral base zero value r = endOfNumeral value 0
+numeral base (suc n) value [] = endOfNumeral value CUT-ESCAPE
 numeral base (suc n) value (c ∷ r) =
-    cond (ltb (digitVal (c .code)) base) (more (numeral base n (value * base + digitVal (c .code)) r)) (stop value BAD-ESCAPE)
+    cond (ltb (digitVal (c .code)) base) (longerNumeral (numeral base n (value * base + digitVal (c .code)) r)) (endOfNumeral value BAD-ESCAPE)

@@ -12,8 +12,8 @@ use Rattle.quotes.specs.Answers.{Meaning, character, noCharacter, bytesO
 use Rattle.quotes.specs.Plain.{isPlainByte}
 
 -- before the first character
-abbrev pub nothing : ℕ → Quoted
-nothing at = record { end = at; chars = 0; closed = false; error = 0; count = 0; code = 0; escaped = false; strays = 0; bytes = 0 }
+abbrev pub emptyBody : ℕ → Quoted
+emptyBody at = record { end = at; chars = 0; closed = false; error = 0; count = 0; code = 0; escaped = false; strays = 0; bytes = 0 }
 
 -- one piece more
 unfoldable pub added : Quoted → Piece → Quoted
@@ -43,8 +43,8 @@ abbrev pub plainPiece : ℕ → ℕ → Piece
 plainPiece n code = record { chars = n; count = n; code = code; escaped = false; strays = 0; bytes = n }
 
 -- the end of the body, after n characters more
-unfoldable pub stopped : Quoted → ℕ → ℕ → Bool → ℕ → Quoted
-stopped q end n closed error =
+unfoldable pub bodyEnd : Quoted → ℕ → ℕ → Bool → ℕ → Quoted
+bodyEnd q end n closed error =
     record {
       end = end;
       chars = q .chars + n;

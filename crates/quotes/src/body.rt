@@ -10,7 +10,7 @@ ghost use Rattle.quotes.specs.Answers.{meaningOf};
 ghost use Rattle.quotes.specs.Body.{quotedAt};
 ghost use Rattle.quotes.specs.Literal.{doubleQuote, singleQuote};
 ghost use Rattle.quotes.specs.Plain.{isPlainByte, plainLen};
-ghost use Rattle.quotes.specs.Steps.{stopMark, nothing, added, stopped, errorOf, escapePiece, charPiece, plainPiece};
+ghost use Rattle.quotes.specs.Steps.{stopMark, emptyBody, added, bodyEnd, errorOf, escapePiece, charPiece, plainPiece};
 
 // A piece of the body: an escape, a character, or a run of characters that are written as themselves.
 struct Piece {
@@ -27,7 +27,7 @@ struct Piece {
 
 // Before the first character.
 fn nothing_read(at: usize) -> Quoted
-    ensures { λ r. ⌜ r ≡ nothing at ⌝ }
+    ensures { λ r. ⌜ r ≡ emptyBody at ⌝ }
 {
     Quoted {
         end: at,
@@ -67,7 +67,7 @@ fn add(q: Quoted, x: Piece) -> Quoted
 // The end of the body, after n characters more.
 fn stop(q: Quoted, end: usize, n: usize, closed: bool, error: u8) -> Quoted
     requires { ⌜ q .chars + n < 2 ^ 64 ⌝ }
-    ensures { λ r. ⌜ r ≡ stopped q end n closed error ⌝ }
+    ensures { λ r. ⌜ r ≡ bodyEnd q end n closed error ⌝ }
 {
     let chars = q.chars + n;
     Quoted {

@@ -20,7 +20,7 @@ pub const NO_POSITION: u8 = 4;
 pub const NO_LINE: u8 = 5;
 
 // ---- From the state.
-// The state does not fit what a call is lent.
+// The state, or a part of a token, does not fit what a call is lent, or a slice of numbers is too short.
 pub const DOES_NOT_FIT: u8 = 6;
 
 // More line starts than the table holds.

@@ -20,13 +20,13 @@ use Rattle.reading.specs.Reading.{opened}
 use Rattle.state.specs.declared.state.State.{State}
 use Rattle.state.specs.Fits.{fileOf}
 use Rattle.state.specs.State.{fresh}
-use Rattle.opening.specs.Opening.{maxSource, Begun, Opening, refusedWith, sized, openOf}
+use Rattle.opening.specs.Opening.{maxSource, Begun, Opening, openRefused, sized, openOf}
 use Rattle.scanner.specs.Scan.{view}
 use Rattle.runs.specs.Calls.{Held, Accepted}
 use Rattle.runs.proofs.Seen.{viewOf}
 
 -- an opening that gave passed this check
-passed : (t : Bool) (number : ℕ) (place : Option ℕ) (table : List ℕ) (o r : Opening) {b : Begun} → r .outcome ≡ gave b → cond t (refusedWith number place table) o ≡ r → (t ≡ false) × (o ≡ r)
+passed : (t : Bool) (number : ℕ) (place : Option ℕ) (table : List ℕ) (o r : Opening) {b : Begun} → r .outcome ≡ gave b → cond t (openRefused number place table) o ≡ r → (t ≡ false) × (o ≡ r)
 passed true number place table o r g e = refused-gave (ap (λ (x : Opening). x .outcome) e ∙ g)
 passed false number place table o r g e = (refl, e)
 

@@ -35,7 +35,7 @@ use Rattle.parts.specs.Shown.{shownOf}
 use Rattle.scanner.specs.Scan.{view, partFrom, refusedBy, scanBy, scanOf}
 use Rattle.runs.specs.Calls.{Held, Accepted, call, Seen, play, tokens, recordOf}
 use Rattle.runs.specs.Joined.{NoEof, FirstEof, JoinedRuns, joinedRecord}
-use Rattle.runs.specs.Table.{token, error, shows}
+use Rattle.runs.specs.Table.{shownToken, error, shows}
 use Rattle.runs.proofs.Joined.{joined-runs}
 
 -- the texts: of 8 characters and of 2
@@ -135,7 +135,7 @@ pub computed :
     × (recordOf y second h₂ .errors ≡ error 2 1 1 2 ∷ [])
     × (recordOf (x ++ y) joined h .errors ≡ error 2 9 2 2 ∷ [])
     × (map shows (tokens (x ++ y) joined h)
-    ≡ token IDENT 100 "x" ∷ token ASSIGN 102 "" ∷ token INT 104 "0o17" ∷ token SEMICOLON 107 ""
-    ∷ token ILLEGAL 108 "0o" ∷ token INT 109 "8" ∷ token SEMICOLON 110 "" ∷ token EOF 110 "" ∷ [])
+    ≡ shownToken IDENT 100 "x" ∷ shownToken ASSIGN 102 "" ∷ shownToken INT 104 "0o17" ∷ shownToken SEMICOLON 107 ""
+    ∷ shownToken ILLEGAL 108 "0o" ∷ shownToken INT 109 "8" ∷ shownToken SEMICOLON 110 "" ∷ shownToken EOF 110 "" ∷ [])
 unfolding same charsFrom firstChar octets encode keywords operators kindNamed digitVal isLetter isWord wordLen isSpace isBlank skip begins longest digitRun finish decimalRest decimal prefixed bareZero leadingZero withoutI number numberText wordLexeme lexNumber lexOperator lexBy lexToken lex Placed.placed readLines lineOf startOf columnOf inRange fitting numbers recordAt errorsOf after fresh shownOf view scanBy scanOf call play tokens recordOf
 computed = (refl, refl, refl, refl, refl)

@@ -28,7 +28,7 @@ use Rattle.reading.proofs.Runs.{run-shift}
 use Rattle.reading.proofs.Ending.{reading-path}
 use Rattle.state.specs.declared.state.State.{State}
 use Rattle.state.specs.Fits.{fits}
-use Rattle.scanner.specs.Scan.{view, tokenStart, toArea, tokenOf, refusalOf, After, gaveBy, unless, scanBy, scanOf}
+use Rattle.scanner.specs.Scan.{view, tokenStart, toArea, tokenOf, refusalOf, ScanLeft, gaveBy, unless, scanBy, scanOf}
 use Rattle.scanner.proofs.Scans.{Held as Fitting, held}
 use Rattle.scanner.proofs.Fitting.{passes}
 use Rattle.runs.specs.Calls.{Held, call, left, Seen, seenIn, given, play, tokens}
@@ -70,11 +70,11 @@ module _ (src area : List ℕ) (h : Held) where
   abbrev u : Reading
   u = next lex (s .size) r
 
-  abbrev gives : After
+  abbrev gives : ScanLeft
   gives = gaveBy s p (tokenOf (s .base) start r p) u (h .table) (h .list) area
 
   -- nothing, or one scan
-  abbrev Did : After → Type 0
+  abbrev Did : ScanLeft → Type 0
   Did a =
       ((left a ≡ h) × (given src a ≡ []))
       ⊎ ((viewOf src (left a) ≡ u) × (given src a ≡ seenOf src (token (s .base) x r) ∷ []) × (left a .state .base ≡ s .base) × (left a .state .size ≡ s .size))
@@ -162,7 +162,7 @@ unfolding play tokens run firsts tokenAt
 plays src [] h = (0, record { view = refl; tokens = refl; base = refl; size = refl })
 plays src (area ∷ areas) h = go (call src area h) (did src area h) (plays src areas (left (call src area h)))
   where
-    go : (a : After) → Did src area h a → (k : ℕ) × Plays src (left a) (play src areas (left a)) (tokens src areas (left a)) k
+    go : (a : ScanLeft) → Did src area h a → (k : ℕ) × Plays src (left a) (play src areas (left a)) (tokens src areas (left a)) k
         → (k : ℕ) × Plays src h (play src areas (left a)) (given src a ++ tokens src areas (left a)) k
     go a (inl d) q = (q .0, rw (d .1) (subst (λ g. Plays src g (play src areas (left a)) (tokens src areas (left a)) (q .0)) (d .0) (q .1)))
     go a (inr d) q = (suc (q .0), rw (d .1) (plays-more src h (left a) (d .0) (d .2) (d .3) (play src areas (left a)) (tokens src areas (left a)) (q .0) (q .1)))

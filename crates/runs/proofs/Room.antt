@@ -20,7 +20,7 @@ use Rattle.reading.specs.Run.{scanned, next}
 use Rattle.state.specs.declared.state.State.{State}
 use Rattle.state.specs.Fits.{fileOf, fits}
 use Rattle.state.specs.State.{fresh}
-use Rattle.scanner.specs.Scan.{view, written, tokenStart, toArea, tokenOf, refusalOf, After, withError, stateOf, gaveBy, unless, scanBy, scanOf}
+use Rattle.scanner.specs.Scan.{view, written, tokenStart, toArea, tokenOf, refusalOf, ScanLeft, withError, stateOf, gaveBy, unless, scanBy, scanOf}
 use Rattle.scanner.proofs.Scans.{Held as Holds}
 use Rattle.scanner.proofs.Fitting.{fits-held, held-after, passes}
 use Rattle.runs.specs.Calls.{Held, Accepted, call, left, play}
@@ -73,11 +73,11 @@ module _ (src : List ℕ) (h : Held) (f : Fit src h) (y : Lexeme) (bound : taken
 
 -- ---- a call
 -- what a call leaves is what it was lent, or what its lexeme leaves
-left-cases : (P : Held → Type 0) (n : ℕ) (a : After) (h : Held) (area : List ℕ) → P h → (n ≡ 0 → P (left a)) → P (left (unless n a (h .state) (h .table) (h .list) area))
+left-cases : (P : Held → Type 0) (n : ℕ) (a : ScanLeft) (h : Held) (area : List ℕ) → P h → (n ≡ 0 → P (left a)) → P (left (unless n a (h .state) (h .table) (h .list) area))
 left-cases P zero a h area f g = g refl
 left-cases P (suc n) a h area f g = f
 
-unless-refusal : (n : ℕ) (a : After) (h : Held) (area : List ℕ) → a .answer .refusal ≡ 0 → unless n a (h .state) (h .table) (h .list) area .answer .refusal ≡ n
+unless-refusal : (n : ℕ) (a : ScanLeft) (h : Held) (area : List ℕ) → a .answer .refusal ≡ 0 → unless n a (h .state) (h .table) (h .list) area .answer .refusal ≡ n
 unless-refusal zero a h area e = e
 unless-refusal (suc n) a h area e = refl
 
@@ -107,7 +107,7 @@ module _ (src : List ℕ) (h : Held) (f : Fit src h) where
   next-sized = omega (arith, f .rest, bound)
 
   module _ (area : List ℕ) where
-    abbrev gives : After
+    abbrev gives : ScanLeft
     gives = gaveBy s p (tokenOf (s .base) (tokenStart r x) r p) u (h .table) (h .list) area
 
     abbrev refusal : ℕ

@@ -15,7 +15,7 @@ use Rattle.opening.specs.Opening.{openOf}
 use Rattle.parts.specs.Shown.{Shown}
 use Rattle.parts.specs.declared.token.Token.{Token}
 use Rattle.parts.specs.Text.{textShown, valueShown}
-use Rattle.scanner.specs.Scan.{After, scanOf}
+use Rattle.scanner.specs.Scan.{ScanLeft, scanOf}
 
 -- what goes from call to call: the state, the line table and the error list
 pub record Held : Type 0 where
@@ -30,11 +30,11 @@ pub record Accepted (src : List ℕ) (base size : ℕ) (h : Held) : Type 0 where
       ≡ record { table = h .table; outcome = gave (record { state = h .state; chars = length (chars src) }); place = none }
 
 -- one scan, with a text area of its own
-unfoldable pub call : List ℕ → List ℕ → Held → After
+unfoldable pub call : List ℕ → List ℕ → Held → ScanLeft
 call src area h = scanOf src (h .state) (h .table) (h .list) area
 
 -- what it leaves for the next
-abbrev pub left : After → Held
+abbrev pub left : ScanLeft → Held
 left a = record { state = a .answer .state; table = a .table; list = a .list }
 
 -- a token, with its text and value as the queries show them when its own scan returns
@@ -43,7 +43,7 @@ pub record Seen : Type 0 where
   pub text : Shown
   pub value : Shown
 
-abbrev pub seenIn : List ℕ → After → Seen
+abbrev pub seenIn : List ℕ → ScanLeft → Seen
 seenIn src a =
     record {
       token = a .answer .token;
@@ -52,7 +52,7 @@ seenIn src a =
     }
 
 -- "Scans are numbered by those that gave a token."
-abbrev pub given : List ℕ → After → List Seen
+abbrev pub given : List ℕ → ScanLeft → List Seen
 given src a = cond (eqb (a .answer .refusal) 0) (seenIn src a ∷ []) []
 
 -- a list of scans is the list of their text areas: what it leaves, and the tokens that it gives

@@ -24,8 +24,8 @@ pub record Row : Type 0 where
   pub tokens : List Shows
   pub errors : List Error
 
-abbrev pub token : ℕ → ℕ → String → Shows
-token kind position text = record { kind = kind; position = position; text = spelled text }
+abbrev pub shownToken : ℕ → ℕ → String → Shows
+shownToken kind position text = record { kind = kind; position = position; text = spelled text }
 
 -- an error: its number, and where it is, by offset, line and column
 abbrev pub error : ℕ → ℕ → ℕ → ℕ → Error
@@ -40,17 +40,17 @@ row text tokens errors = sizedRow (length (chars (spelled text))) text tokens er
 
 unfoldable pub rows : List Row
 rows =
-    row "" (token EOF 0 "" ∷ []) [] ∷
-    row "x" (token IDENT 0 "x" ∷ token SEMICOLON 1 "" ∷ token EOF 1 "" ∷ []) [] ∷
-    row "08" (token ILLEGAL 0 "0o" ∷ token INT 1 "8" ∷ token SEMICOLON 2 "" ∷ token EOF 2 "" ∷ []) (error 2 1 1 2 ∷ []) ∷
-    row "0X1F" (token INT 0 "0x1F" ∷ token SEMICOLON 4 "" ∷ token EOF 4 "" ∷ []) [] ∷
-    row "''" (token ILLEGAL 0 "''" ∷ token SEMICOLON 2 "" ∷ token EOF 2 "" ∷ []) (error 13 2 1 3 ∷ []) ∷
-    row "'ab'" (token ILLEGAL 0 "'ab'" ∷ token SEMICOLON 4 "" ∷ token EOF 4 "" ∷ []) (error 13 4 1 5 ∷ []) ∷
-    row "\"\\400\"" (token ILLEGAL 0 "\"\\400" ∷ token ILLEGAL 5 "\"" ∷ token SEMICOLON 6 "" ∷ token EOF 6 "" ∷ []) (error 8 6 1 7 ∷ []) ∷
-    row "x /* c */ r\n" (token IDENT 0 "x" ∷ token COMMENT 2 "/* c */" ∷ token IDENT 10 "r" ∷ token SEMICOLON 11 "" ∷ token EOF 12 "" ∷ []) [] ∷
-    row "1__0" (token ILLEGAL 0 "1_" ∷ token IDENT 2 "_0" ∷ token SEMICOLON 4 "" ∷ token EOF 4 "" ∷ []) (error 4 2 1 3 ∷ []) ∷
-    row "`\n" (token STRING 0 "`\n" ∷ token SEMICOLON 2 "" ∷ token EOF 2 "" ∷ []) (error 6 2 1 3 ∷ []) ∷
-    sizedRow 3 "`\n" (token STRING 0 "`\n" ∷ token SEMICOLON 2 "" ∷ token EOF 2 "" ∷ []) (error 6 2 2 1 ∷ []) ∷
+    row "" (shownToken EOF 0 "" ∷ []) [] ∷
+    row "x" (shownToken IDENT 0 "x" ∷ shownToken SEMICOLON 1 "" ∷ shownToken EOF 1 "" ∷ []) [] ∷
+    row "08" (shownToken ILLEGAL 0 "0o" ∷ shownToken INT 1 "8" ∷ shownToken SEMICOLON 2 "" ∷ shownToken EOF 2 "" ∷ []) (error 2 1 1 2 ∷ []) ∷
+    row "0X1F" (shownToken INT 0 "0x1F" ∷ shownToken SEMICOLON 4 "" ∷ shownToken EOF 4 "" ∷ []) [] ∷
+    row "''" (shownToken ILLEGAL 0 "''" ∷ shownToken SEMICOLON 2 "" ∷ shownToken EOF 2 "" ∷ []) (error 13 2 1 3 ∷ []) ∷
+    row "'ab'" (shownToken ILLEGAL 0 "'ab'" ∷ shownToken SEMICOLON 4 "" ∷ shownToken EOF 4 "" ∷ []) (error 13 4 1 5 ∷ []) ∷
+    row "\"\\400\"" (shownToken ILLEGAL 0 "\"\\400" ∷ shownToken ILLEGAL 5 "\"" ∷ shownToken SEMICOLON 6 "" ∷ shownToken EOF 6 "" ∷ []) (error 8 6 1 7 ∷ []) ∷
+    row "x /* c */ r\n" (shownToken IDENT 0 "x" ∷ shownToken COMMENT 2 "/* c */" ∷ shownToken IDENT 10 "r" ∷ shownToken SEMICOLON 11 "" ∷ shownToken EOF 12 "" ∷ []) [] ∷
+    row "1__0" (shownToken ILLEGAL 0 "1_" ∷ shownToken IDENT 2 "_0" ∷ shownToken SEMICOLON 4 "" ∷ shownToken EOF 4 "" ∷ []) (error 4 2 1 3 ∷ []) ∷
+    row "`\n" (shownToken STRING 0 "`\n" ∷ shownToken SEMICOLON 2 "" ∷ shownToken EOF 2 "" ∷ []) (error 6 2 1 3 ∷ []) ∷
+    sizedRow 3 "`\n" (shownToken STRING 0 "`\n" ∷ shownToken SEMICOLON 2 "" ∷ shownToken EOF 2 "" ∷ []) (error 6 2 2 1 ∷ []) ∷
     []
 
 -- what the opening leaves, at base 0, where positions are offsets: a table of four line starts and a list of four errors, all 0

@@ -20,8 +20,8 @@ use Rattle.lexer.specs.Placed.{said}
 use Rattle.state.specs.declared.state.State.{State}
 use Rattle.scanner.specs.declared.answer.Scanned.{Scanned}
 use Rattle.state.specs.Fits.{fileOf}
-use Rattle.scanner.specs.Scan.{written, toArea, After}
-use Rattle.scanner.specs.Steps.{stateBy, tokenBy, positionBy, startsFrom, isPlain, Ready, Left, leftOf, commitOf}
+use Rattle.scanner.specs.Scan.{written, toArea, ScanLeft}
+use Rattle.scanner.specs.Steps.{stateBy, tokenBy, positionBy, startsFrom, isPlain, Ready, BuffersLeft, leftOf, commitOf}
 
 -- what a plain token has
 pub plain : (x : Lexed) → isPlain x ≡ true → (eqb (x .error) 0 ≡ true) × (x .«text_differs» ≡ false) × (x .«value_differs» ≡ false)
@@ -62,13 +62,13 @@ module _ (src : List ℕ) (s : State) (start : ℕ) (x : Lexed) (read starts : �
   pub left-is : {a : State} {t l b : List ℕ} → a ≡ after → t ≡ recorded
       → l ≡ cond (eqb (x .error) 0) list (sets list (s .errors * width) (numbers (errorAt (x .error) (a .offset) (take (a .lines) t))))
       → b ≡ written (toArea (said src start x)) area
-      → _≡_ {A = Left} (record { table = t; list = l; area = b }) (leftOf src s start x read starts table list area)
+      → _≡_ {A = BuffersLeft} (record { table = t; list = l; area = b }) (leftOf src s start x read starts table list area)
   unfolding leftOf
   left-is e f g h = rw (g, h, f, e)
 
-  pub commit-is : {l : Left} {a : Scanned} → l ≡ leftOf src s start x read starts table list area
+  pub commit-is : {l : BuffersLeft} {a : Scanned} → l ≡ leftOf src s start x read starts table list area
       → a ≡ record { refusal = 0; state = after; token = tokenBy x start (positionBy s start) }
-      → _≡_ {A = After} (record { table = l .table; list = l .list; area = l .area; answer = a }) (commitOf src s start x read starts table list area)
+      → _≡_ {A = ScanLeft} (record { table = l .table; list = l .list; area = l .area; answer = a }) (commitOf src s start x read starts table list area)
   unfolding commitOf
   commit-is e f = rw (e, f)
 
@@ -78,11 +78,11 @@ module _ (src : List ℕ) (s : State) (start : ℕ) (x : Lexed) (read starts : �
   nothing p = rw (plain x p .1, plain x p .2)
 
   plain-left : {t : List ℕ} → isPlain x ≡ true → t ≡ recorded
-      → _≡_ {A = Left} (record { table = t; list = list; area = area }) (leftOf src s start x read starts table list area)
+      → _≡_ {A = BuffersLeft} (record { table = t; list = list; area = area }) (leftOf src s start x read starts table list area)
   unfolding leftOf
   plain-left p f = rw (f, nothing p, plain x p .0)
 
   pub commit-plain-is : {t : List ℕ} {a : Scanned} → isPlain x ≡ true → t ≡ recorded
       → a ≡ record { refusal = 0; state = after; token = tokenBy x start (positionBy s start) }
-      → _≡_ {A = After} (record { table = t; list = list; area = area; answer = a }) (commitOf src s start x read starts table list area)
+      → _≡_ {A = ScanLeft} (record { table = t; list = list; area = area; answer = a }) (commitOf src s start x read starts table list area)
   commit-plain-is p f g = commit-is (plain-left p f) g

@@ -29,7 +29,7 @@ use Rattle.reading.specs.Reading.{Reading, errorAt, after}
 use Rattle.reading.proofs.Step.{after-from-zero}
 use Rattle.state.specs.declared.state.State.{State}
 use Rattle.state.specs.Fits.{fileOf, fits}
-use Rattle.scanner.specs.Scan.{view, written, tokenStart, toArea, tokenOf, refusalOf, After, stateOf, withError, gaveBy, unless, scanBy, scanOf}
+use Rattle.scanner.specs.Scan.{view, written, tokenStart, toArea, tokenOf, refusalOf, ScanLeft, stateOf, withError, gaveBy, unless, scanBy, scanOf}
 use Rattle.scanner.proofs.Scans.{Held, held}
 
 -- a state with all that fitting asks
@@ -105,7 +105,7 @@ module _ (src : List ℕ) (s : State) (table list : List ℕ) (k : Held s src ta
 
 -- ---- a scan
 -- one that is not refused gave something
-given : (P : After → Type 0) (n : ℕ) (a : After) (s : State) (table list area : List ℕ) → unless n a s table list area .answer .refusal ≡ 0 → (n ≡ 0 → P a) → P (unless n a s table list area)
+given : (P : ScanLeft → Type 0) (n : ℕ) (a : ScanLeft) (s : State) (table list area : List ℕ) → unless n a s table list area .answer .refusal ≡ 0 → (n ≡ 0 → P a) → P (unless n a s table list area)
 given P zero a s table list area e f = f refl
 given P (suc n) a s table list area e f = absurd (omega arith)
 
@@ -153,5 +153,5 @@ module _ (src : List ℕ) (s : State) (table list area : List ℕ) (holds : fits
       → let a = scanOf src s table list area in fits (a .answer .state) src (a .table) (a .list) ≡ true
   unfolding scanOf scanBy placed
   fits-after e =
-      given (λ (a : After). fits (a .answer .state) src (a .table) (a .list) ≡ true) refusal
+      given (λ (a : ScanLeft). fits (a .answer .state) src (a .table) (a .list) ≡ true) refusal
       (gaveBy s p (tokenOf (s .base) (tokenStart r x) r p) u table list area) s table list area e gives-fits

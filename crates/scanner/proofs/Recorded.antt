@@ -20,7 +20,7 @@ use Rattle.position.specs.Queries.{positionOf}
 use Rattle.position.proofs.Located.{enum}
 use Rattle.position.proofs.Queries.{position-pos}
 use Rattle.errors.specs.Layout.{width, numbers}
-use Rattle.errors.specs.Errors.{After, roomOf, addTo}
+use Rattle.errors.specs.Errors.{AddLeft, roomOf, addTo}
 use Rattle.errors.proofs.Laws.{add-gave}
 use Rattle.reading.specs.Reading.{errorAt}
 
@@ -42,5 +42,5 @@ module _ (f : File) (table : List ℕ) (o : ℕ) (e : fitting f table ≡ true) 
       → after ≡ sets list (count * width) (numbers (errorAt number o (starts f table)))
   recorded list count number {r} {p} q a room w =
       let z = line-and-column q a in
-      ap (λ (x : After). x .list) (w ∙ add-gave list count (record { offset = o; line = p .line; column = p .column; number = number }) room)
+      ap (λ (x : AddLeft). x .list) (w ∙ add-gave list count (record { offset = o; line = p .line; column = p .column; number = number }) room)
       ∙ ap (λ (y : Position). sets list (count * width) (numbers (record { offset = o; line = y .line; column = y .column; number = number }))) z

@@ -28,7 +28,7 @@ use Rattle.lexer.specs.Placed.{Placed, placed, said}
 use Rattle.reading.specs.Reading.{Reading, errorAt, newErrors, after}
 use Rattle.state.specs.declared.state.State.{State}
 use Rattle.state.specs.Fits.{fileOf, fitsAlone, fitsTable, fitsSource, fitsList, fits}
-use Rattle.scanner.specs.Scan.{view, written, tokenStart, toArea, tokenOf, refusalOf, After, refusedBy, stateOf, withError, gaveBy, unless, scanBy, scanOf}
+use Rattle.scanner.specs.Scan.{view, written, tokenStart, toArea, tokenOf, refusalOf, ScanLeft, refusedBy, stateOf, withError, gaveBy, unless, scanBy, scanOf}
 use Rattle.scanner.specs.Steps.{refusalBy, stateBy, tokenBy, startsFrom, Ready, leftOf, commitOf}
 use Rattle.scanner.proofs.Refusals.{passed}
 use Rattle.scanner.proofs.Pass.{raised, placed-raise, left, skipped, token, lex-raised, skipped-widths, read, taken-read, token-skipped, end-read, text-length, value-length, area-length, start-behind, end-behind, lengths-fit}
@@ -70,7 +70,7 @@ errors-after number offset n list lines =
     go true = refl
     go false = refl
 
-unless-not : (number : ℕ) → (number ≡ 0 → ⊥) → (a : After) (s : State) (table list area : List ℕ) → unless number a s table list area ≡ refusedBy number s table list area
+unless-not : (number : ℕ) → (number ≡ 0 → ⊥) → (a : ScanLeft) (s : State) (table list area : List ℕ) → unless number a s table list area ≡ refusedBy number s table list area
 unless-not zero h a s table list area = absurd (h refl)
 unless-not (suc m) h a s table list area = refl
 
@@ -80,7 +80,7 @@ unfolding scanOf scanBy
 scan-unfit src s table list area f = rw f
 
 -- a scan that is refused leaves all as it was
-unless-kept : (number : ℕ) (a : After) (s : State) (table list area : List ℕ) → a .answer .refusal ≡ 0 → (unless number a s table list area .answer .refusal ≡ 0 → ⊥)
+unless-kept : (number : ℕ) (a : ScanLeft) (s : State) (table list area : List ℕ) → a .answer .refusal ≡ 0 → (unless number a s table list area .answer .refusal ≡ 0 → ⊥)
     → unless number a s table list area ≡ refusedBy (unless number a s table list area .answer .refusal) s table list area
 unless-kept zero a s table list area z h = absurd (h z)
 unless-kept (suc m) a s table list area z h = refl
@@ -174,7 +174,7 @@ module _ (src : List ℕ) (s : State) (table list area : List ℕ) (k : Held s s
   placed-is = placed-raise src start n (token src s start) ∙ ap (raised n) (sym e)
 
   -- what a scan comes to by the place of its token, how it stands there and how far the source is read then
-  abbrev came : ℕ → Placed → Reading → After
+  abbrev came : ℕ → Placed → Reading → ScanLeft
   came st q v =
       unless (refusalOf (fits s src table list) (s .size) v (length table) (roomOf list) (length (toArea q)) (length area))
       (gaveBy s q (tokenOf (s .base) st r q) v table list area)

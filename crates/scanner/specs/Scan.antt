@@ -95,7 +95,7 @@ refusalOf fit size u table list toWrite area =
     (record { offset = size; lines = table; errors = list; bytes = area })
 
 -- what a scan leaves in the buffers, and its answer
-pub record After : Type 0 where
+pub record ScanLeft : Type 0 where
   pub table : List ℕ
   pub list : List ℕ
   pub area : List ℕ
@@ -109,7 +109,7 @@ abbrev pub noToken : Token
 noToken = record { kind = NONE; inserted = false; position = 0; code = 0; text = noPart; value = noPart }
 
 -- "The answer is the number; state and buffers are those of entry."
-abbrev pub refusedBy : ℕ → State → List ℕ → List ℕ → List ℕ → After
+abbrev pub refusedBy : ℕ → State → List ℕ → List ℕ → List ℕ → ScanLeft
 refusedBy n s table list area =
     record { table = table; list = list; area = area; answer = record { refusal = n; state = s; token = noToken } }
 
@@ -122,7 +122,7 @@ abbrev pub withError : ℕ → ℕ → List ℕ → Reading → List ℕ
 withError number n list u = cond (eqb number 0) list (sets list (n * width) (numbers (errorAt number (u .offset) (u .lines))))
 
 -- a scan that reads a lexeme, which stands in the source as p says, and comes to u
-abbrev pub gaveBy : State → Placed → Token → Reading → List ℕ → List ℕ → List ℕ → After
+abbrev pub gaveBy : State → Placed → Token → Reading → List ℕ → List ℕ → List ℕ → ScanLeft
 gaveBy s p token u table list area =
     record {
       table = written (u .lines) table;
@@ -132,12 +132,12 @@ gaveBy s p token u table list area =
     }
 
 -- a refusal by number, if it is not 0
-abbrev pub unless : ℕ → After → State → List ℕ → List ℕ → List ℕ → After
+abbrev pub unless : ℕ → ScanLeft → State → List ℕ → List ℕ → List ℕ → ScanLeft
 unless zero a s table list area = a
 unless (suc n) a s table list area = refusedBy (suc n) s table list area
 
 -- one scan, by what it reads and how far the source has been read
-unfoldable pub scanBy : Lexeme → Reading → List ℕ → State → List ℕ → List ℕ → List ℕ → After
+unfoldable pub scanBy : Lexeme → Reading → List ℕ → State → List ℕ → List ℕ → List ℕ → ScanLeft
 scanBy x r src s table list area =
     let start = tokenStart r x in
     let p = placed src start x in
@@ -147,7 +147,7 @@ scanBy x r src s table list area =
     s table list area
 
 -- one scan
-unfoldable pub scanOf : List ℕ → State → List ℕ → List ℕ → List ℕ → After
+unfoldable pub scanOf : List ℕ → State → List ℕ → List ℕ → List ℕ → ScanLeft
 scanOf src s table list area =
     let r = view src s table list in
     scanBy (lex (r .mark) (r .rest)) r src s table list area

@@ -22,7 +22,7 @@ use Rattle.state.specs.declared.state.State.{State}
 use Rattle.parts.specs.declared.token.Token.{Token}
 use Rattle.state.specs.State.{advance}
 use Rattle.state.specs.Fits.{fileOf, fits}
-use Rattle.scanner.specs.Scan.{partFrom, written, toArea, refusalFor, After}
+use Rattle.scanner.specs.Scan.{partFrom, written, toArea, refusalFor, ScanLeft}
 
 -- how many bytes text and value have
 abbrev pub textLen : Lexed → ℕ
@@ -103,13 +103,13 @@ pub record Ready (src : List ℕ) (s : State) (start : ℕ) (x : Lexed) (read st
   pub bytes : start + 1 + textLen x + valueLen x < 2 ^ 64
 
 -- what buffers hold
-pub record Left : Type 0 where
+pub record BuffersLeft : Type 0 where
   pub table : List ℕ
   pub list : List ℕ
   pub area : List ℕ
 
 -- what a token that was not refused leaves in the buffers
-unfoldable pub leftOf : List ℕ → State → ℕ → Lexed → ℕ → ℕ → List ℕ → List ℕ → List ℕ → Left
+unfoldable pub leftOf : List ℕ → State → ℕ → Lexed → ℕ → ℕ → List ℕ → List ℕ → List ℕ → BuffersLeft
 leftOf src s start x read starts table list area =
     let table′ = sets table (s .lines) (startsFrom src s read) in
     record {
@@ -125,7 +125,7 @@ abbrev pub positionBy : State → ℕ → ℕ
 positionBy s start = s .base + s .offset + (start - s .place)
 
 -- the same, and its answer
-unfoldable pub commitOf : List ℕ → State → ℕ → Lexed → ℕ → ℕ → List ℕ → List ℕ → List ℕ → After
+unfoldable pub commitOf : List ℕ → State → ℕ → Lexed → ℕ → ℕ → List ℕ → List ℕ → List ℕ → ScanLeft
 commitOf src s start x read starts table list area =
     let l = leftOf src s start x read starts table list area in
     record {

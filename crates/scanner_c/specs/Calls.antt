@@ -9,7 +9,7 @@ use Rattle.refusal.specs.Refusals.{DOES-NOT-FIT}
 use Rattle.refusal.specs.Short.{tooShort}
 use Rattle.state.specs.Layout.{stateWidth, stateIn, stateNumbers}
 use Rattle.parts.specs.Layout.{tokenWidth, tokenNumbers}
-use Rattle.scanner.specs.Scan.{After, scanOf}
+use Rattle.scanner.specs.Scan.{ScanLeft, scanOf}
 
 -- what a scan leaves in the lent slices, and its refusal or 0
 pub record Scanned : Type 0 where
@@ -25,7 +25,7 @@ abbrev pub unlessRefused : ℕ → List ℕ → List ℕ → List ℕ
 unlessRefused refusal numbers n = cond (eqb refusal 0) (sets n 0 numbers) n
 
 -- a refused scan leaves state and token as they were
-abbrev pub scannedBy : After → List ℕ → List ℕ → Scanned
+abbrev pub scannedBy : ScanLeft → List ℕ → List ℕ → Scanned
 scannedBy a state token =
     record {
       refusal = a .answer .refusal;

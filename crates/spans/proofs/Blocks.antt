@@ -14,7 +14,7 @@ use Rattle.basics.proofs.Lists.{drop-next, take-more}
 use Rattle.utf8.specs.declared.Char.{Char}
 use Rattle.utf8.specs.Chars.{charAt}
 use Rattle.spans.specs.declared.body.Body.{Body}
-use Rattle.spans.specs.Span.{Span, more, toStarSlash}
+use Rattle.spans.specs.Span.{Span, longerSpan, toStarSlash}
 use Rattle.spans.specs.Steps.{grown}
 use Rattle.spans.specs.Plain.{special, anySpecial, plainBlock, PlainRun}
 use Rattle.spans.proofs.Bodies.{PartRead, part-next, grown-ascii, same-body, slash-more}
@@ -61,12 +61,12 @@ one-plain x s b h k e =
 
 -- a comment's body goes on at what is no star, unless a star stands before
 pub slash-on : (star : Bool) → star ≡ false → (s : List ℕ) (p : ℕ) → p < length s → eqb (getD s p 0) (code "*") ≡ false → (r : List Char)
-    → toStarSlash star (charAt s p ∷ r) ≡ more (toStarSlash star r)
-slash-on star k s p h e r = slash-more s p h r star (rw k) ∙ ap (λ t. more (toStarSlash t r)) (e ∙ sym k)
+    → toStarSlash star (charAt s p ∷ r) ≡ longerSpan (toStarSlash star r)
+slash-on star k s p h e r = slash-more s p h r star (rw k) ∙ ap (λ t. longerSpan (toStarSlash t r)) (e ∙ sym k)
 
 -- f goes on at a plain byte
 module _ (w : Body) (f : List Char → Span) (x : ℕ) (s : List ℕ)
-    (on : (p : ℕ) → p < length s → eqb (getD s p 0) x ≡ false → (r : List Char) → f (charAt s p ∷ r) ≡ more (f r)) where
+    (on : (p : ℕ) → p < length s → eqb (getD s p 0) x ≡ false → (r : List Char) → f (charAt s p ∷ r) ≡ longerSpan (f r)) where
   pub part-plain : (n : ℕ) (b : Body) → PlainRun x s (b .end) n → PartRead w f s b → PartRead w f s (skipped b n)
   part-plain zero b h i = rw (add-zero (b .end), add-zero (b .chars)) i
   part-plain (suc n) b h i =

@@ -13,7 +13,7 @@ use Rattle.utf8.specs.declared.Char.{Char}
 use Rattle.utf8.specs.Chars.{charAt, chars, widths, isStray}
 use Rattle.utf8.proofs.First.{chars-end, charAt-ascii, there-chars, there-least, there-fits}
 use Rattle.spans.specs.declared.body.Body.{Body}
-use Rattle.spans.specs.Span.{Span, unclosed, last, more, toStop, toStarSlash}
+use Rattle.spans.specs.Span.{Span, unclosed, last, longerSpan, toStop, toStarSlash}
 use Rattle.utf8.specs.Count.{isLf, isCr, one, count}
 use Rattle.spans.specs.Body.{bodyOf}
 use Rattle.spans.specs.Steps.{emptyAt, grown}
@@ -36,7 +36,7 @@ joined b s r =
       strays = b .strays + count isStray (take (s .len) r);
     }
 
-joined-more : (b : Body) (c : Char) (s : Span) (r : List Char) → joined b (more s) (c ∷ r) ≡ joined (grown b c false) s r
+joined-more : (b : Body) (c : Char) (s : Span) (r : List Char) → joined b (longerSpan s) (c ∷ r) ≡ joined (grown b c false) s r
 unfolding grown
 joined-more b c s r =
     same-body (sym (add-assoc (b .end) (c .width) _)) (omega arith) refl
@@ -65,7 +65,7 @@ module _ (f : List Char → Span) (s : List ℕ) (b : Body) where
     whole-last : ((r : List Char) → f (charAt s (b .end) ∷ r) ≡ last) → whole f s b ≡ grown b (charAt s (b .end)) true
     whole-last e = rw (there-chars s (b .end) _ h refl, e) (joined-last b (charAt s (b .end)) (chars (drop (b .end + charAt s (b .end) .width) s)))
 
-    whole-more : (g : List Char → Span) → ((r : List Char) → f (charAt s (b .end) ∷ r) ≡ more (g r)) → whole f s b ≡ whole g s (grown b (charAt s (b .end)) false)
+    whole-more : (g : List Char → Span) → ((r : List Char) → f (charAt s (b .end) ∷ r) ≡ longerSpan (g r)) → whole f s b ≡ whole g s (grown b (charAt s (b .end)) false)
     unfolding grown
     whole-more g e =
         let r = chars (drop (b .end + charAt s (b .end) .width) s) in
@@ -77,7 +77,7 @@ module _ (s : List ℕ) (p : ℕ) (h : p < length s) (r : List Char) where
   unfolding toStop
   stop-last x l e = rw (code-at s p _ x h refl l, e)
 
-  pub stop-more : (x : ℕ) → x < 0x80 → eqb (getD s p 0) x ≡ false → toStop x (charAt s p ∷ r) ≡ more (toStop x r)
+  pub stop-more : (x : ℕ) → x < 0x80 → eqb (getD s p 0) x ≡ false → toStop x (charAt s p ∷ r) ≡ longerSpan (toStop x r)
   unfolding toStop
   stop-more x l e = rw (code-at s p _ x h refl l, e)
 
@@ -86,7 +86,7 @@ module _ (s : List ℕ) (p : ℕ) (h : p < length s) (r : List Char) where
     unfolding toStarSlash
     slash-last e = rw (code-at s p _ (code "/") h refl (lit< tt), e)
 
-    pub slash-more : star && eqb (getD s p 0) (code "/") ≡ false → toStarSlash star (charAt s p ∷ r) ≡ more (toStarSlash (eqb (getD s p 0) (code "*")) r)
+    pub slash-more : star && eqb (getD s p 0) (code "/") ≡ false → toStarSlash star (charAt s p ∷ r) ≡ longerSpan (toStarSlash (eqb (getD s p 0) (code "*")) r)
     unfolding toStarSlash
     slash-more e = rw (code-at s p _ (code "/") h refl (lit< tt), e, code-at s p _ (code "*") h refl (lit< tt))
 
@@ -149,7 +149,7 @@ module _ (w : Body) (f : List Char → Span) (s : List ℕ) (b : Body) (i : Part
         let z = ap (λ (x : Body). x .end) e in
         (omega (arith, there-least s (b .end) _ h refl), omega (arith, there-fits s (b .end) _ h refl))
 
-    pub part-next : t ≡ false → (g : List Char → Span) → ((r : List Char) → f (charAt s (b .end) ∷ r) ≡ more (g r)) → PartRead w g s a
+    pub part-next : t ≡ false → (g : List Char → Span) → ((r : List Char) → f (charAt s (b .end) ∷ r) ≡ longerSpan (g r)) → PartRead w g s a
     unfolding grown
     part-next k g l =
         record {

@@ -11,7 +11,7 @@ use borrow.Author.Tests.{eqb-true, eqb-false}
 use Rattle.basics.proofs.Choice.{and-split}
 use Rattle.utf8.specs.declared.Char.{Char}
 use Rattle.utf8.specs.Chars.{ended}
-use Rattle.spans.specs.Span.{Span, unclosed, last, more, toStop, toStarSlash}
+use Rattle.spans.specs.Span.{Span, unclosed, last, longerSpan, toStop, toStarSlash}
 use Rattle.utf8.proofs.Ends.{Ends, ends-tail, ends-more, ends-some}
 
 pub record Spanned (r : List Char) (s : Span) : Type 0 where
@@ -23,7 +23,7 @@ spanned-none : Spanned [] unclosed
 spanned-none = record { bound = lit≤ tt; some = λ e. absurd (false≢true e); all = λ e. refl }
 
 -- the next character closes it, or not
-spanned-cond : (t : Bool) (c : Char) (r : List Char) (s : Span) → Spanned r s → Spanned (c ∷ r) (cond t last (more s))
+spanned-cond : (t : Bool) (c : Char) (r : List Char) (s : Span) → Spanned r s → Spanned (c ∷ r) (cond t last (longerSpan s))
 spanned-cond true c r s i = record { bound = omega arith; some = λ e. lit≤ tt; all = λ e. absurd (true≢false e) }
 spanned-cond false c r s i = record { bound = omega (arith, i .bound); some = λ e. omega arith; all = λ e. ap suc (i .all e) }
 
@@ -39,9 +39,9 @@ slash-spanned star (c ∷ r) =
     spanned-cond (star && eqb (c .code) (code "/")) c r (toStarSlash (eqb (c .code) (code "*")) r) (slash-spanned (eqb (c .code) (code "*")) r)
 
 -- ---- more text behind
-local-cond : (t : Bool) (s s′ : Span) → (s .closed ≡ true → s′ ≡ s) → cond t last (more s) .closed ≡ true → cond t last (more s′) ≡ cond t last (more s)
+local-cond : (t : Bool) (s s′ : Span) → (s .closed ≡ true → s′ ≡ s) → cond t last (longerSpan s) .closed ≡ true → cond t last (longerSpan s′) ≡ cond t last (longerSpan s)
 local-cond true s s′ f e = refl
-local-cond false s s′ f e = ap more (f e)
+local-cond false s s′ f e = ap longerSpan (f e)
 
 pub stop-local : (x : ℕ) (r t : List Char) → toStop x r .closed ≡ true → toStop x (r ++ t) ≡ toStop x r
 unfolding toStop
@@ -60,13 +60,13 @@ unfolding toStop
 line-closed [] h = absurd h
 line-closed (c ∷ r) h = go (eqb (c .code) (code "\n")) refl (line-closed r)
   where
-    go : (t : Bool) → eqb (c .code) (code "\n") ≡ t → (Ends r → toStop (code "\n") r .closed ≡ true) → cond t last (more (toStop (code "\n") r)) .closed ≡ true
+    go : (t : Bool) → eqb (c .code) (code "\n") ≡ t → (Ends r → toStop (code "\n") r .closed ≡ true) → cond t last (longerSpan (toStop (code "\n") r)) .closed ≡ true
     go true e f = refl
     go false e f = f (ends-tail c r h (eqb-false (c .code) (code "\n") e))
 
 -- a span that another character closes leaves the line feed
 left-cond : (t : Bool) (c : Char) (r : List Char) (s : Span) → Spanned r s → Ends (c ∷ r) → (t ≡ true → c .code ≡ code "\n" → ⊥) → (Ends r → s .closed ≡ true → s .len < length r)
-    → cond t last (more s) .closed ≡ true → cond t last (more s) .len < suc (length r)
+    → cond t last (longerSpan s) .closed ≡ true → cond t last (longerSpan s) .len < suc (length r)
 left-cond true c r s i h n f e = omega (arith, ends-some r (ends-tail c r h (n refl)))
 left-cond false c r s i h n f e = omega (arith, f (ends-more c r h (omega (arith, i .bound, i .some e))) e)
 
@@ -98,7 +98,7 @@ stop-closing x [] e = absurd (false≢true e)
 stop-closing x (c ∷ r) e = go (eqb (c .code) x) refl (stop-closing x r) e
   where
     go : (t : Bool) → eqb (c .code) x ≡ t → (toStop x r .closed ≡ true → Closing x r (toStop x r) (pred (toStop x r .len)))
-        → cond t last (more (toStop x r)) .closed ≡ true → Closing x (c ∷ r) (cond t last (more (toStop x r))) (pred (cond t last (more (toStop x r)) .len))
+        → cond t last (longerSpan (toStop x r)) .closed ≡ true → Closing x (c ∷ r) (cond t last (longerSpan (toStop x r))) (pred (cond t last (longerSpan (toStop x r)) .len))
     go true k f e = record { len = refl; inside = omega arith; code = eqb-true (c .code) x k }
     go false k f e =
         let i = f e in

@@ -20,15 +20,15 @@ abbrev pub last : Span
 last = record { len = 1; closed = true }
 
 -- one character before
-abbrev pub more : Span → Span
-more s = record { len = suc (s .len); closed = s .closed }
+abbrev pub longerSpan : Span → Span
+longerSpan s = record { len = suc (s .len); closed = s .closed }
 
 -- to the first character of the code `stop`
 unfoldable pub toStop : ℕ → List Char → Span
 toStop stop [] = unclosed
-toStop stop (c ∷ r) = cond (eqb (c .code) stop) last (more (toStop stop r))
+toStop stop (c ∷ r) = cond (eqb (c .code) stop) last (longerSpan (toStop stop r))
 
 -- to the first `*/`; `star`: the character before is a `*`. The opening's own does not count, and a dropped CR is a character still
 unfoldable pub toStarSlash : Bool → List Char → Span
 toStarSlash star [] = unclosed
-toStarSlash star (c ∷ r) = cond (star && eqb (c .code) (code "/")) last (more (toStarSlash (eqb (c .code) (code "*")) r))
+toStarSlash star (c ∷ r) = cond (star && eqb (c .code) (code "/")) last (longerSpan (toStarSlash (eqb (c .code) (code "*")) r))

@@ -22,9 +22,9 @@ abbrev pub notUtf8 : ℕ → Checking
 notUtf8 place = record { outcome = refused NOT-UTF8; place = some place }
 
 -- what each answer says
-abbrev pub says : Checked → Checking
-says (Valid count) = valid count
-says (Bad place) = notUtf8 place
+abbrev pub checkingOf : Checked → Checking
+checkingOf (Valid count) = valid count
+checkingOf (Bad place) = notUtf8 place
 
 -- of a well-formed text the number of its characters, of any other the place of the first byte that belongs to no well-formed character
 abbrev pub checkedOf : List ℕ → Checking

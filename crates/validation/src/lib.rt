@@ -2,7 +2,7 @@
 mod ascii;
 
 ghost use mathlib.Core.Path.{_≡_};
-ghost use Rattle.validation.specs.Answers.{says, checkedOf};
+ghost use Rattle.validation.specs.Answers.{checkingOf, checkedOf};
 
 // A text that was checked: how many characters it has, or the place of a byte that belongs to no well-formed character.
 pub enum Checked {
@@ -12,7 +12,7 @@ pub enum Checked {
 
 // Checks a text: blocks of ASCII at once, and what lies between them character by character.
 pub fn check(s: &[u8]) -> Checked
-    ensures { λ r. ⌜ says r ≡ checkedOf (now (s .entry)) ⌝ }
+    ensures { λ r. ⌜ checkingOf r ≡ checkedOf (now (s .entry)) ⌝ }
 {
     let mut at = 0;
     let mut count = 0;

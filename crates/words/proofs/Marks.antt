@@ -24,7 +24,7 @@ use Rattle.utf8.specs.Chars.{chars}
 use Rattle.utf8.proofs.First.{chars-le}
 use Rattle.utf8.proofs.Runs.{run-bound}
 use Rattle.words.specs.Word.{isLetter, isWord, wordLen}
-use Rattle.words.specs.Marks.{other}
+use Rattle.words.specs.Marks.{otherMark}
 use Rattle.words.proofs.Words.{word-end, word-more, word-stop, word-run}
 
 -- what the code computes, in one byte
@@ -66,9 +66,9 @@ lower-high b h = leb→le _ _ (every-below (λ b. leb (lower b) 0xFA) 256 tt b h
 either-high : (b : ℕ) → b < 256 → bitOr (letter b) (digit b) ≤ 0xFF
 either-high b h = leb→le _ _ (every-below (λ b. leb (bitOr (letter b) (digit b)) 0xFF) 256 tt b h)
 
-mark-right : (b : ℕ) → b < 256 → other-mark b ≡ other b
-unfolding other isWord isLetter
-mark-right b h = eqb→eq _ _ (every-below (λ b. eqb (other-mark b) (other b)) 256 tt b h)
+mark-right : (b : ℕ) → b < 256 → other-mark b ≡ otherMark b
+unfolding otherMark isWord isLetter
+mark-right b h = eqb→eq _ _ (every-below (λ b. eqb (other-mark b) (otherMark b)) 256 tt b h)
 
 module _ (w : ℕ) (h : w < 2 ^ 64) where
   lowers-each : lowers w ≡ lanes 8 lower w
@@ -95,11 +95,11 @@ module _ (w : ℕ) (h : w < 2 ^ 64) where
       from-all w (λ b. bitOr (letter b) (digit b))
       (ap₂ bitOr letters-each digits-each ∙ lanes-or letter digit (small letter tt) (small digit tt) 8 w) 0xFF either-high
 
-  pub others-each : others w ≡ lanes 8 other w
+  pub others-each : others w ≡ lanes 8 otherMark w
   others-each =
       marks-each w h (λ b. bitAnd (apart 0x5F b) (neither b)) (small (λ b. bitAnd (apart 0x5F b) (neither b)) tt)
       (ap₂ bitAnd (aparts-each w h 0x5F (omega arith)) neither-each ∙ lanes-and (apart 0x5F) neither (small (apart 0x5F) tt) (small neither tt) 8 w)
-      ∙ lanes-same other-mark other 8 w mark-right
+      ∙ lanes-same other-mark otherMark 8 w mark-right
 
   -- nothing overflows
   pub letter-fits : lowers w + 0x1F1F_1F1F_1F1F_1F1F < 2 ^ 64
@@ -127,11 +127,11 @@ module _ (s : List ℕ) (p : ℕ) where
   run-none e = elim (decLt p (length s)) [ yes h ↦ omega (arith, word-stop s p h e) | no h ↦ omega (arith, word-end s p (omega arith)) ]
 
 -- the run at a place, as far as eight bytes go, in the form that the code has
-pub run-zeros : (s : List ℕ) → Bytes s → (p w m : ℕ) → w ≡ numberOf (take 8 (drop p s)) → m ≡ lanes 8 other w
+pub run-zeros : (s : List ℕ) → Bytes s → (p w m : ℕ) → w ≡ numberOf (take 8 (drop p s)) → m ≡ lanes 8 otherMark w
     → trailingZeros 64 m / 8 ≡ min 8 (wordLen (chars (drop p s)))
-unfolding other
+unfolding otherMark
 run-zeros s bytes p w m e f =
-    ap (λ x. trailingZeros 64 x / 8) (f ∙ ap (lanes 8 other) e)
+    ap (λ x. trailingZeros 64 x / 8) (f ∙ ap (lanes 8 otherMark) e)
     ∙ run-marked (λ p. wordLen (chars (drop p s))) isWord s (p + 8) (λ p _. run-next s p) (λ p _. run-none s p) bytes 8 p (omega arith)
 
 -- k characters on in a run

@@ -4,5 +4,5 @@ use mathlib.Core.Bool.{cond}
 use Rattle.words.specs.Word.{isWord}
 
 -- what the search by eight bytes has for a byte: a mark, where it is no part of a word
-unfoldable pub other : ℕ → ℕ
-other b = cond (isWord b) 0 0x80
+unfoldable pub otherMark : ℕ → ℕ
+otherMark b = cond (isWord b) 0 0x80

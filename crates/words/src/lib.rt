@@ -5,7 +5,7 @@ ghost use lib.ListN.{drop};
 ghost use Rattle.swar.specs.Lanes.{lanes};
 ghost use Rattle.utf8.specs.Chars.{chars};
 ghost use Rattle.words.specs.Word.{isLetter, wordLen};
-ghost use Rattle.words.specs.Marks.{other};
+ghost use Rattle.words.specs.Marks.{otherMark};
 ghost use Rattle.words.specs.Near.{nearRun};
 
 pub fn is_letter(b: u8) -> bool
@@ -29,7 +29,7 @@ pub fn is_letter(b: u8) -> bool
 // For each of eight bytes 0x80 where it is no letter and no digit, else 0. A test's answer is the top bit of each byte: that of a sum
 // or a difference with the byte's low seven bits, which never reaches into the next byte.
 fn others(w: u64) -> u64
-    ensures { λ r. ⌜ r ≡ lanes 8 other w ⌝ }
+    ensures { λ r. ⌜ r ≡ lanes 8 otherMark w ⌝ }
 {
     let low = w & 0x7F7F_7F7F_7F7F_7F7F;
     // 0x20 makes a letter lower case; 0x1F is 0x80 - b'a', 0xFA is 0x80 + b'z'

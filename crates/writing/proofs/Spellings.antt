@@ -12,56 +12,56 @@ use Rattle.basics.proofs.Lists.{drop-next}
 use Rattle.numbers.specs.declared.Spelling.{Spelling}
 use Rattle.numbers.specs.declared.Spelling.the-variants.{AsRead, LowerPrefix, OctalPrefix, LowerExponent}
 use Rattle.numbers.specs.Spelling.{lower, numberText}
-use Rattle.writing.specs.Spelled.{spelled, spelledFrom}
+use Rattle.writing.specs.Spelled.{spelledByte, spelledFrom}
 
 -- ---- what the text has of one byte
 module _ {spelling : Spelling} (k b : ℕ) where
-  pub byte-as-read : spelling ≡ AsRead → spelled spelling k b ≡ b ∷ []
-  unfolding spelled
-  byte-as-read e = ap (λ s. spelled s k b) e
+  pub byte-as-read : spelling ≡ AsRead → spelledByte spelling k b ≡ b ∷ []
+  unfolding spelledByte
+  byte-as-read e = ap (λ s. spelledByte s k b) e
 
-  pub byte-prefix : spelling ≡ LowerPrefix → spelled spelling k b ≡ cond (eqb k 1) (lower b) b ∷ []
-  unfolding spelled
-  byte-prefix e = ap (λ s. spelled s k b) e
+  pub byte-prefix : spelling ≡ LowerPrefix → spelledByte spelling k b ≡ cond (eqb k 1) (lower b) b ∷ []
+  unfolding spelledByte
+  byte-prefix e = ap (λ s. spelledByte s k b) e
 
-  pub byte-exponent : spelling ≡ LowerExponent → spelled spelling k b ≡ cond (eqb b 69) 101 b ∷ []
-  unfolding spelled
-  byte-exponent e = ap (λ s. spelled s k b) e
+  pub byte-exponent : spelling ≡ LowerExponent → spelledByte spelling k b ≡ cond (eqb b 69) 101 b ∷ []
+  unfolding spelledByte
+  byte-exponent e = ap (λ s. spelledByte s k b) e
 
-  pub byte-first : spelling ≡ OctalPrefix → k ≡ 0 → spelled spelling k b ≡ b ∷ 111 ∷ []
-  unfolding spelled
+  pub byte-first : spelling ≡ OctalPrefix → k ≡ 0 → spelledByte spelling k b ≡ b ∷ 111 ∷ []
+  unfolding spelledByte
   byte-first e z = rw (e, eq-eqb k 0 z)
 
-  pub byte-after-o : spelling ≡ OctalPrefix → (k ≡ 0 → ⊥) → spelled spelling k b ≡ b ∷ []
-  unfolding spelled
+  pub byte-after-o : spelling ≡ OctalPrefix → (k ≡ 0 → ⊥) → spelledByte spelling k b ≡ b ∷ []
+  unfolding spelledByte
   byte-after-o e z = rw (e, ne-eqb k 0 z)
 
 -- ---- the whole text
 as-read : (k : ℕ) (bs : List ℕ) → spelledFrom AsRead k bs ≡ bs
-unfolding spelled spelledFrom
+unfolding spelledByte spelledFrom
 as-read k [] = refl
 as-read k (b ∷ bs) = ap (λ l. b ∷ l) (as-read (k + 1) bs)
 
 -- after its second byte a text with a prefix is as read
 after-prefix : (k : ℕ) (bs : List ℕ) → 1 < k → spelledFrom LowerPrefix k bs ≡ bs
-unfolding spelled spelledFrom
+unfolding spelledByte spelledFrom
 after-prefix k [] h = refl
 after-prefix k (b ∷ bs) h = rw (ne-eqb k 1 (λ e. omega arith)) (ap (λ l. b ∷ l) (after-prefix (k + 1) bs (omega arith)))
 
 -- and with an o after its first
 after-o : (k : ℕ) (bs : List ℕ) → 0 < k → spelledFrom OctalPrefix k bs ≡ bs
-unfolding spelled spelledFrom
+unfolding spelledByte spelledFrom
 after-o k [] h = refl
 after-o k (b ∷ bs) h = rw (ne-eqb k 0 (λ e. omega arith)) (ap (λ l. b ∷ l) (after-o (k + 1) bs (omega arith)))
 
 exponent : (k : ℕ) (bs : List ℕ) → spelledFrom LowerExponent k bs ≡ numberText LowerExponent bs
-unfolding spelled spelledFrom numberText
+unfolding spelledByte spelledFrom numberText
 exponent k [] = refl
 exponent k (b ∷ bs) = ap (λ l. cond (eqb b 69) 101 b ∷ l) (exponent (k + 1) bs)
 
 -- byte by byte the text is the same
 number-text : (spelling : Spelling) (bs : List ℕ) → numberText spelling bs ≡ spelledFrom spelling 0 bs
-unfolding spelled spelledFrom numberText
+unfolding spelledByte spelledFrom numberText
 number-text AsRead bs = sym (as-read 0 bs)
 number-text LowerPrefix [] = refl
 number-text LowerPrefix (a ∷ []) = refl
@@ -80,7 +80,7 @@ number-at spelling count s at =
     number-text spelling (take count (drop at s)) ∙ ap (λ n. spelledFrom spelling 0 (take n (drop at s))) z
 
 module _ (spelling : Spelling) (count k : ℕ) (s : List ℕ) (p : ℕ) where
-  pub spelled-next : k < count → p < length s → spelledAt spelling count k s p ≡ spelled spelling k (getD s p 0) ++ spelledAt spelling count (k + 1) s (p + 1)
+  pub spelled-next : k < count → p < length s → spelledAt spelling count k s p ≡ spelledByte spelling k (getD s p 0) ++ spelledAt spelling count (k + 1) s (p + 1)
   unfolding spelledFrom
   spelled-next l h =
       let one-more : count - k ≡ suc (count - (k + 1)) = omega arith in

@@ -14,13 +14,13 @@ abbrev pub lowerExponent : ℕ → ℕ
 lowerExponent b = cond (eqb b (code "E")) (code "e") b
 
 -- what the text has of a byte that was read after k others
-unfoldable pub spelled : Spelling → ℕ → ℕ → List ℕ
-spelled AsRead k b = b ∷ []
-spelled LowerPrefix k b = cond (eqb k 1) (lower b) b ∷ []
-spelled OctalPrefix k b = cond (eqb k 0) (b ∷ code "o" ∷ []) (b ∷ [])
-spelled LowerExponent k b = lowerExponent b ∷ []
+unfoldable pub spelledByte : Spelling → ℕ → ℕ → List ℕ
+spelledByte AsRead k b = b ∷ []
+spelledByte LowerPrefix k b = cond (eqb k 1) (lower b) b ∷ []
+spelledByte OctalPrefix k b = cond (eqb k 0) (b ∷ code "o" ∷ []) (b ∷ [])
+spelledByte LowerExponent k b = lowerExponent b ∷ []
 
 -- the text of bytes that were read after k others
 unfoldable pub spelledFrom : Spelling → ℕ → List ℕ → List ℕ
 spelledFrom spelling k [] = []
-spelledFrom spelling k (b ∷ bs) = spelled spelling k b ++ spelledFrom spelling (k + 1) bs
+spelledFrom spelling k (b ∷ bs) = spelledByte spelling k b ++ spelledFrom spelling (k + 1) bs

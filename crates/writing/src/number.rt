@@ -8,7 +8,7 @@ ghost use lib.ListN.{take, drop};
 ghost use lib.Seq.{sets};
 ghost use Rattle.numbers.specs.Spelling.{lower, numberText};
 ghost use Rattle.writing.specs.Writes.{Writes};
-ghost use Rattle.writing.specs.Spelled.{lowerExponent, spelled};
+ghost use Rattle.writing.specs.Spelled.{lowerExponent, spelledByte};
 
 // A byte that was read after k others, in lower case where it is the second.
 fn lower_second(k: usize, b: u8) -> u8
@@ -32,7 +32,7 @@ fn lower_exponent(b: u8) -> u8
 
 // Writes what the text has of a byte that was read after k others, and answers the place after it.
 fn put_spelled(spelling: Spelling, k: usize, b: u8, area: &mut [u8], to: usize) -> usize
-    ensures { λ r. ⌜ Writes (now (area .entry)) to (spelled spelling k b) (now (area .exit)) r ⌝ }
+    ensures { λ r. ⌜ Writes (now (area .entry)) to (spelledByte spelling k b) (now (area .exit)) r ⌝ }
 {
     match spelling {
         Spelling::AsRead => put(area, to, b),

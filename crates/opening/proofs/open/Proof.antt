@@ -1,7 +1,7 @@
 -- `open` meets its contract: the length and the check are the definition's tests, and the rest is `begin`.
 use mathlib.Core.Path.{sym, ap, _∙_}
 use borrow.Author.Needs.{needs}
-use Rattle.validation.specs.Answers.{says}
+use Rattle.validation.specs.Answers.{checkingOf}
 use Rattle.opening.proofs.Opens.{open-long, open-bad, open-begun}
 use Rattle.opening.proofs.open.Statement.{statement}
 use Rattle.opening.proofs.open.Tie as tie
@@ -24,7 +24,7 @@ begin-requires c κs = search needs
 returns-2 : tie.Need-returns-2
 returns-2 c =
     let k = c .before .before .before in
-    sym (open-bad _ _ _ _ (k .before .if1 .left) (ap says (sym (c .before .place .given .1)) ∙ k .check .ensures))
+    sym (open-bad _ _ _ _ (k .before .if1 .left) (ap checkingOf (sym (c .before .place .given .1)) ∙ k .check .ensures))
 
 same-length : tie.Need-same-length
 same-length c = search needs
@@ -35,7 +35,7 @@ returns-3 c =
     let v = b .before .before .before in
     let k = v .before .before in
     b .begin .ensures
-    ∙ sym (open-begun _ _ _ _ (k .before .if1 .left) (ap says (sym (v .chars .given .1)) ∙ k .check .ensures))
+    ∙ sym (open-begun _ _ _ _ (k .before .if1 .left) (ap checkingOf (sym (v .chars .given .1)) ∙ k .check .ensures))
 
 pub open-spec : {M : Type 1} → statement M
 open-spec =

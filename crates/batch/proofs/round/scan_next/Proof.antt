@@ -4,7 +4,7 @@ use mathlib.Core.Bool.{false≢true}
 use native.Mathlib.Omega.{arith}
 use lib.ListN.{length}
 use borrow.Author.Needs.{needs}
-use Rattle.scanner.specs.Scan.{After}
+use Rattle.scanner.specs.Scan.{ScanLeft}
 use Rattle.parts.specs.Layout.{tokenWidth}
 use Rattle.batch.proofs.Given.{token-fits}
 use Rattle.batch.proofs.Rounds.{comes-refused, comes-given}
@@ -18,7 +18,7 @@ scan-requires c κs = tt
 abbrev start : tie.After-scan → tie.Start
 start c = c .before .before .before .before .before .before .before .before .before
 
-abbrev after : tie.After-scan → After
+abbrev after : tie.After-scan → ScanLeft
 after c =
     record {
       table = c .scan .last .1 .1 .0;

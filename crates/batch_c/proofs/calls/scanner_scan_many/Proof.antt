@@ -11,7 +11,7 @@ use borrow.Author.Tests.{le-leb, eq-eqb, ne-eqb}
 use Rattle.refusal.specs.Short.{tooShort}
 use Rattle.refusal.proofs.Lengths.{long-enough}
 use Rattle.state.specs.Layout.{stateWidth, stateIn}
-use Rattle.batch.specs.Many.{Left, scanManyOf}
+use Rattle.batch.specs.Many.{ManyLeft, scanManyOf}
 use Rattle.batch.proofs.Given.{many-kept}
 use Rattle.batch_c.specs.Many.{Scans, scansBy, scanManyNumbers}
 use Rattle.batch_c.proofs.calls.scanner_scan_many.Statement.{statement}
@@ -19,7 +19,7 @@ use Rattle.batch_c.proofs.calls.scanner_scan_many.Tie as tie
 
 -- what the scans leave, where the slices are long enough
 module _ (src state table list area tokens answer : List ℕ) (fits : tooShort (length state) stateWidth (length answer) 1 ≡ false)
-    (l : Left) (e : l ≡ scanManyOf src (stateIn state) table list area tokens) where
+    (l : ManyLeft) (e : l ≡ scanManyOf src (stateIn state) table list area tokens) where
   gave : l .refusal ≡ 0 → scansBy l state answer ≡ scanManyNumbers src state table list area tokens answer
   unfolding scanManyNumbers
   gave z = rw (fits, ← e, eq-eqb _ _ z)
@@ -30,7 +30,7 @@ module _ (src state table list area tokens answer : List ℕ) (fits : tooShort (
   unfolding scanManyNumbers
   kept f =
       let same = e ∙ many-kept src (stateIn state) table list area tokens (rw e at f) in
-      rw (fits, ← e, ne-eqb _ _ f, ap (λ (k : Left). k .table) same, ap (λ (k : Left). k .list) same, ap (λ (k : Left). k .area) same, ap (λ (k : Left). k .tokens) same)
+      rw (fits, ← e, ne-eqb _ _ f, ap (λ (k : ManyLeft). k .table) same, ap (λ (k : ManyLeft). k .list) same, ap (λ (k : ManyLeft). k .area) same, ap (λ (k : ManyLeft). k .tokens) same)
 
 too-short-requires : tie.Need-too-short-requires
 too-short-requires c κs = tt
@@ -59,7 +59,7 @@ not-short e = sym (e .before .too-short .ensures) ∙ e .if1 .left
 long : (e : tie.Else1) → let a = start e .args in (stateWidth ≤ length (a .state .now)) × (1 ≤ length (a .answer .now))
 long e = long-enough _ _ _ _ (e .before .too-short .ensures) (e .if1 .left)
 
-abbrev left : tie.After-scan-many → Left
+abbrev left : tie.After-scan-many → ManyLeft
 left c =
     record {
       refusal = c .scan-many .result .refusal;

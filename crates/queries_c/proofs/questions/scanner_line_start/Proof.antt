@@ -4,7 +4,7 @@ use mathlib.Core.List.{[], _∷_}
 use native.Mathlib.Omega.{arith}
 use borrow.Author.Needs.{needs}
 use Rattle.refusal.proofs.Lengths.{long-enough}
-use Rattle.position.specs.Answers.{outcome}
+use Rattle.position.specs.Answers.{answerOutcome}
 use Rattle.queries_c.specs.Asked.{answeredBy}
 use Rattle.queries_c.specs.Questions.{lineStartNumbers}
 use Rattle.queries_c.proofs.questions.scanner_line_start.Statement.{statement}
@@ -40,7 +40,7 @@ same-length c = search needs
 -- past the test of lengths, what the state in the numbers answers
 answered : (q : tie.After-line-start)
     → let a = q .before .before .before .before .before .before .before .args in
-    lineStartNumbers (a .state .now) (a .table .now) (a .line) (a .answer .now) ≡ answeredBy (λ start. start ∷ []) (outcome (q .line-start .result)) (a .answer .now)
+    lineStartNumbers (a .state .now) (a .table .now) (a .line) (a .answer .now) ≡ answeredBy (λ start. start ∷ []) (answerOutcome (q .line-start .result)) (a .answer .now)
 unfolding lineStartNumbers
 answered q =
     let e = q .before .before in

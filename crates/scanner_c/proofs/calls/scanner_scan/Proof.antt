@@ -12,13 +12,13 @@ use Rattle.refusal.specs.Short.{tooShort}
 use Rattle.refusal.proofs.Lengths.{long-enough}
 use Rattle.state.specs.Layout.{stateWidth, stateNumbers}
 use Rattle.parts.specs.Layout.{tokenWidth, tokenNumbers}
-use Rattle.scanner.specs.Scan.{After}
+use Rattle.scanner.specs.Scan.{ScanLeft}
 use Rattle.scanner_c.specs.Calls.{Scanned, scannedBy, scanNumbers}
 use Rattle.scanner_c.proofs.calls.scanner_scan.Statement.{statement}
 use Rattle.scanner_c.proofs.calls.scanner_scan.Tie as tie
 
 -- a scan that is not refused
-gave : (a : After) (state token : List ℕ) → a .answer .refusal ≡ 0
+gave : (a : ScanLeft) (state token : List ℕ) → a .answer .refusal ≡ 0
     → _≡_ {A = Scanned}
     (record {
       refusal = 0;
@@ -54,7 +54,7 @@ tested c = c .before .before .before .before .before .before
 abbrev start : tie.Else1 → tie.Start
 start c = c .before .before .before .before .before .before .before .before
 
-abbrev left : tie.After-scan → After
+abbrev left : tie.After-scan → ScanLeft
 left c =
     record {
       answer = c .scan .result;
