@@ -4,7 +4,6 @@ use mathlib.Core.Path.{_≡_, subst}
 use mathlib.Core.Bool.{Bool, Bool·beq}
 use native.Mathlib.Omega.{arith}
 use lib.Dec.{T, eqb, eqb→eq}
-use Rattle.basics.specs.Between.{between}
 use Rattle.basics.proofs.Choice.{same-test}
 use Rattle.basics.proofs.Every.{below, every-below}
 
@@ -18,6 +17,6 @@ every-within f lo n t k l h =
 pub value-within : (f : ℕ → ℕ) (v lo n : ℕ) → T (below (λ j. eqb v (f (lo + j))) n) → (k : ℕ) → lo ≤ k → k < lo + n → v ≡ f k
 value-within f v lo n t k l h = eqb→eq v (f k) (every-within (λ m. eqb v (f m)) lo n t k l h)
 
--- a test of bytes says whether they are between two others
-pub test-between : (f : ℕ → Bool) (lo hi : ℕ) → T (below (λ k. Bool·beq (f k) (between lo k hi)) 256) → (k : ℕ) → k < 256 → f k ≡ between lo k hi
-test-between f lo hi t k h = same-test (f k) (between lo k hi) (every-below (λ m. Bool·beq (f m) (between lo m hi)) 256 t k h)
+-- two tests of bytes are one
+pub same-tests : (f g : ℕ → Bool) → T (below (λ k. Bool·beq (f k) (g k)) 256) → (k : ℕ) → k < 256 → f k ≡ g k
+same-tests f g t k h = same-test (f k) (g k) (every-below (λ m. Bool·beq (f m) (g m)) 256 t k h)

@@ -177,3 +177,6 @@ pub const SWITCH: u8 = 79;
 pub const TYPE: u8 = 80;
 
 pub const VAR: u8 = 81;
+
+// How many kinds there are.
+const KINDS: u8 = VAR + 1;

@@ -2,8 +2,8 @@
 use crate::*;
 ghost use mathlib.Core.Path.{_≡_};
 ghost use Prim.Native.Nat.{_<_};
-ghost use lib.ListN.{getD};
-ghost use Rattle.kinds.specs.Table.{nameOf};
+ghost use lib.ListN.{length, getD};
+ghost use Rattle.kinds.specs.Table.{table, nameOf};
 ghost use Rattle.kinds.specs.Names.{padded};
 
 // A name: its first `len` bytes; the other bytes are zero.
@@ -13,7 +13,7 @@ pub struct Padded {
 }
 
 // The name of each kind, with spaces up to eleven bytes.
-const NAMES: [u8; 902] = *b"\
+const NAMES: [u8; KINDS as usize * 11] = *b"\
     NONE       \
     ILLEGAL    \
     EOF        \
@@ -100,7 +100,7 @@ const NAMES: [u8; 902] = *b"\
 
 // A byte of a name; past its end, a space.
 fn byte_of(kind: usize, i: usize) -> u8
-    requires { ⌜ (kind < 82) × (i < 11) ⌝ }
+    requires { ⌜ (kind < length table) × (i < 11) ⌝ }
     ensures { λ r. ⌜ r ≡ getD (nameOf kind) i 0x20 ⌝ }
 {
     NAMES[kind * 11 + i]
@@ -112,7 +112,7 @@ pub fn name(kind: u8) -> Padded
 {
     let mut bytes = [0; 11];
     let mut len = 0;
-    if VAR < kind {
+    if KINDS <= kind {
         return Padded { bytes, len };
     }
     while len < 11 {

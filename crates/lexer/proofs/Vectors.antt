@@ -17,8 +17,8 @@ use Rattle.numbers.specs.declared.Spelling.the-variants.{LowerPrefix, OctalPref
 use Rattle.numbers.specs.Run.{digitRun, strictRun}
 use Rattle.numbers.specs.Number.{decimal, prefixed, bareZero, leadingZero, withoutI, number}
 use Rattle.numbers.specs.Spelling.{numberText}
-use Rattle.quotes.specs.Numeral.{numeral}
-use Rattle.quotes.specs.Escape.{letter, byteOf, octalEscape, escapeOf}
+use Rattle.escapes.specs.Numeral.{numeral}
+use Rattle.escapes.specs.Escape.{letter, byteOf, octalEscape, escapeOf}
 use Rattle.quotes.specs.Body.{bodyFrom}
 use Rattle.spans.specs.Span.{toStop, toStarSlash}
 use Rattle.spans.specs.Body.{clean}

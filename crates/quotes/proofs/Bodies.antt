@@ -1,22 +1,19 @@
 -- Laws of a body over its characters: what is skipped, and the size of its value.
 use Prim.Native.Nat.{ℕ, zero, suc, _+_, _*_, _≤_}
-use mathlib.Core.Path.{_≡_, refl, sym, subst}
+use mathlib.Core.Path.{_≡_, refl, sym}
 use mathlib.Core.Bool.{true, false, cond, false≢true}
 use mathlib.Core.List.{List, [], _∷_}
 use mathlib.Core.Logic.{⊎-elim}
 use native.Mathlib.Omega.{arith}
 use native.Mathlib.Nat.{zero-add, suc-add}
-use lib.Dec.{eqb, ltb, lit≤}
+use lib.Dec.{eqb, lit≤}
 use lib.ListN.{length, take, drop, length-append}
 use borrow.Author.Tests.{eqb-true}
 use Rattle.basics.proofs.Choice.{cond-ind, either, and-split}
 use Rattle.utf8.specs.declared.Char.{Char}
-use Rattle.utf8.specs.Chars.{octets, isScalar, encode, isStray, widths}
-use Rattle.digits.specs.Digit.{digitVal}
-use Rattle.quotes.specs.declared.numeral.Numeral.{Numeral}
-use Rattle.quotes.specs.Answers.{Meaning, character, noCharacter, Escape, bytesOf}
-use Rattle.quotes.specs.Numeral.{numeral}
-use Rattle.quotes.specs.Escape.{letter, following, byteOf, codePointOf, octalEscape, hexEscape, escapeOf}
+use Rattle.utf8.specs.Chars.{octets, encode, isStray, widths}
+use Rattle.escapes.specs.Answers.{Meaning, character, noCharacter, bytesOf}
+use Rattle.escapes.specs.Escape.{escapeOf}
 use Rattle.quotes.specs.Body.{Body, plain, escape, bodyFrom, body}
 
 pub body-skip : (quote k : ℕ) (r : List Char) → bodyFrom quote k r ≡ body quote (drop k r)
@@ -81,49 +78,3 @@ from-sound quote (c ∷ r) zero =
 
 pub closed-sound : (quote : ℕ) (r : List Char) → body quote r .closed ≡ true → body quote r .error ≡ 0
 closed-sound quote r = from-sound quote r 0
-
--- ---- what an escape gives is at most twice as long as the escape with its backslash
-abbrev Short : List ℕ → Type 0
-Short l = length l ≤ 4
-
-abbrev One : Meaning → Type 0
-One g = length (bytesOf g) ≤ 1
-
-abbrev Twice : Escape → Type 0
-Twice x = length (bytesOf (x .meaning)) ≤ 2 * (x .len + 1)
-
-pub encode-most : (n : ℕ) → length (encode n) ≤ 4
-unfolding encode octets
-encode-most n =
-    cond-ind Short (isScalar n) _ _
-    (λ _. cond-ind Short (ltb n 0x80) _ _ (λ _. lit≤ tt)
-    (λ _. cond-ind Short (ltb n 0x800) _ _ (λ _. lit≤ tt) (λ _. cond-ind Short (ltb n 0x10000) _ _ (λ _. lit≤ tt) (λ _. lit≤ tt))))
-    (λ _. lit≤ tt)
-
-given-most : (g : Meaning) → length (bytesOf g) ≤ 4
-given-most (character code true) = lit≤ tt
-given-most (character code false) = encode-most code
-given-most (noCharacter error) = lit≤ tt
-
-pub byte-most : (n : Numeral) → length (bytesOf (byteOf n)) ≤ 1
-unfolding byteOf
-byte-most n =
-    cond-ind One (eqb (n .error) 0) _ _ (λ _. cond-ind One (ltb 255 (n .value)) _ _ (λ _. lit≤ tt) (λ _. lit≤ tt)) (λ _. lit≤ tt)
-
-hex-bytes : (first : ℕ) (r : List Char) → Twice (hexEscape first r)
-unfolding hexEscape
-hex-bytes first r =
-    cond-ind Twice (eqb (following first) 0) _ _ (λ _. lit≤ tt)
-    (λ _. omega (arith, given-most (cond (eqb first 120) (byteOf (numeral 16 (following first) 0 r)) (codePointOf (numeral 16 (following first) 0 r)))))
-
-escape-bytes : (quote : ℕ) (r : List Char) → Twice (escapeOf quote r)
-unfolding escapeOf octalEscape
-escape-bytes quote [] = lit≤ tt
-escape-bytes quote (c ∷ r) =
-    cond-ind Twice (eqb (letter (c .code)) 0) _ _
-    (λ _. cond-ind Twice (eqb (c .code) quote) _ _ (λ _. encode-most (c .code))
-    (λ _. cond-ind Twice (ltb (digitVal (c .code)) 8) _ _ (λ _. omega (arith, byte-most (numeral 8 3 0 (c ∷ r)))) (λ _. hex-bytes (c .code) r)))
-    (λ _. encode-most (letter (c .code)))
-
-pub escape-gives : (quote : ℕ) (r : List Char) (x : Escape) (g : Meaning) → x ≡ escapeOf quote r → x .meaning ≡ g → length (bytesOf g) ≤ 2 * (x .len + 1)
-escape-gives quote r x g e v = subst (λ (y : Meaning). length (bytesOf y) ≤ 2 * (x .len + 1)) v (subst Twice (sym e) (escape-bytes quote r))

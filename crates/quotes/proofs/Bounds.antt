@@ -11,7 +11,7 @@ use Rattle.utf8.specs.declared.Char.{Char}
 use Rattle.utf8.specs.Chars.{isStray}
 use Rattle.quotes.specs.declared.Quoted.{Quoted}
 use Rattle.quotes.specs.declared.body.Piece.{Piece}
-use Rattle.quotes.specs.Answers.{character, bytesOf}
+use Rattle.escapes.specs.Answers.{character, bytesOf}
 use Rattle.quotes.specs.Steps.{added, escapePiece, charPiece, plainPiece}
 
 -- before the first character there is no code

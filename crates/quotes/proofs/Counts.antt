@@ -21,15 +21,14 @@ use Rattle.utf8.proofs.First.{ascii-there, chars-at, chars-end, chars-ascii, fi
 use Rattle.utf8.proofs.Places.{place-chars, place-fits, ascii-widths}
 use Rattle.utf8.proofs.Append.{first-stray}
 use Rattle.utf8.proofs.Encoding.{first-coded}
-use Rattle.quotes.specs.Answers.{Meaning, character, noCharacter, bytesOf}
-use Rattle.quotes.specs.Escape.{escapeOf}
+use Rattle.escapes.specs.Answers.{Meaning, character, noCharacter, bytesOf}
+use Rattle.escapes.specs.Escape.{escapeOf}
 use Rattle.quotes.specs.Body.{Body, ends, plain, escape, bodyFrom, body}
-use Rattle.quotes.proofs.Heads.{Heads, heads-bound, heads-at, escape-heads, escape-widths}
+use Rattle.escapes.proofs.Heads.{Heads, heads-bound, heads-at, escape-heads, escape-widths, escape-rest}
 use Rattle.quotes.proofs.Bodies.{body-skip, widths-split}
-use Rattle.quotes.proofs.Reading.{escape-rest}
 use Rattle.quotes.proofs.Places.{stray-there}
 use Rattle.quotes.proofs.Shown.{body-plain, value-shown}
-use Rattle.quotes.proofs.Shorter.{escape-shorter}
+use Rattle.escapes.proofs.Shorter.{escape-shorter}
 
 -- how many bytes are above 127
 abbrev highs : List ℕ → ℕ

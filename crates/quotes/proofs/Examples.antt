@@ -9,8 +9,8 @@ use Rattle.utf8.specs.Chars.{chars, charsFrom, firstChar, octets, encode}
 use Rattle.kinds.specs.Kinds.{ILLEGAL}
 use Rattle.errors.specs.Numbers.{OPEN-QUOTE, UNKNOWN-ESCAPE, CUT-ESCAPE, BAD-ESCAPE, NO-CODE-POINT, NOT-ONE-CHARACTER}
 use Rattle.digits.specs.Digit.{digitVal}
-use Rattle.quotes.specs.Numeral.{numeral}
-use Rattle.quotes.specs.Escape.{letter, byteOf, codePointOf, octalEscape, following, hexEscape, escapeOf}
+use Rattle.escapes.specs.Numeral.{numeral}
+use Rattle.escapes.specs.Escape.{letter, byteOf, codePointOf, octalEscape, following, hexEscape, escapeOf}
 use Rattle.quotes.specs.Body.{Body, bodyFrom, body, bodyAt, quotedAt}
 use Rattle.quotes.specs.Literal.{doubleQuote, singleQuote, charKind, charError}
 

@@ -1,6 +1,3 @@
-pub mod Numerals
-pub mod EscapeLaws
-pub mod Heads
 pub mod Bodies
 pub mod Reading
 pub mod Bounds
@@ -9,6 +6,5 @@ pub mod PlainRuns
 pub mod Stops
 pub mod Local
 pub mod Shown
-pub mod Shorter
 pub mod Counts
 pub mod Examples

@@ -1,23 +1,22 @@
--- A body and an escape read characters of the text and no LF; in a text that ends in an LF they are the same with more text behind.
-use Prim.Native.Nat.{ℕ, zero, suc, _+_, _*_, _≤_, _<_, suc-le-suc}
-use mathlib.Core.Path.{_≡_, refl, sym, subst}
+-- A body reads characters of the text and no LF; in a text that ends in an LF it is the same with more text behind.
+use Prim.Native.Nat.{ℕ, zero, suc, _+_, _≤_, _<_, suc-le-suc}
+use mathlib.Core.Path.{_≡_, sym, subst}
 use mathlib.Core.List.{List, [], _∷_, _++_}
-use mathlib.Core.Logic.{_⊎_, inl, inr, ⊎-elim}
+use mathlib.Core.Logic.{⊎-elim}
 use native.Mathlib.Omega.{arith}
 use native.Mathlib.Nat.{add-zero, zero-add, suc-add, le-of-suc-le-suc}
 use lib.Dec.{eqb}
 use lib.ListN.{length, getD}
-use borrow.Author.Tests.{eqb-true, eqb-false, le-ltb}
+use borrow.Author.Tests.{eqb-true, eqb-false}
 use Rattle.basics.proofs.Choice.{cond-ind}
 use Rattle.utf8.specs.declared.Char.{Char}
 use Rattle.utf8.specs.Chars.{ended}
-use Rattle.utf8.proofs.Ends.{Ends, ends-tail, ends-more, ends-some}
-use Rattle.digits.specs.Digit.{digitVal}
-use Rattle.quotes.specs.Answers.{Meaning, character, noCharacter}
-use Rattle.quotes.specs.Numeral.{numeral}
-use Rattle.quotes.specs.Escape.{letter, following, octalEscape, hexEscape, escapeOf}
+use Rattle.utf8.proofs.Ends.{Ends, ends-tail, ends-more, ends-next, ends-some}
+use Rattle.escapes.specs.Answers.{Meaning, character, noCharacter}
+use Rattle.escapes.specs.Escape.{escapeOf}
 use Rattle.quotes.specs.Body.{Body, escape, bodyFrom, body}
-use Rattle.quotes.proofs.Heads.{Heads, heads-bound, heads-at, escape-heads}
+use Rattle.escapes.proofs.Heads.{Heads, heads-bound, heads-at, escape-heads}
+use Rattle.escapes.proofs.Local.{escape-local}
 
 -- ---- what holds of the quote and of all codes but LF holds of what a body reads
 module _ (P : ℕ → Type 0) (all : (c : ℕ) → (c ≡ 10 → ⊥) → P c) (quote : ℕ) (at-quote : P quote) where
@@ -59,25 +58,6 @@ before zero r h e = ends-some r e
 before (suc n) [] h e = absurd e
 before (suc n) (c ∷ r) h e = suc-le-suc (before n r (h .1) (ends-tail c r e (h .0)))
 
--- the next character is that line feed, or it is still to come
-next : (c : Char) (r : List Char) → Ends (c ∷ r) → (c .code ≡ 10) ⊎ Ends r
-next c [] h = inl h
-next c (d ∷ r) h = inr h
-
-numeral-local : (base : ℕ) → base ≤ 16 → (r t : List Char) → Ends r → (n v : ℕ) → numeral base n v (r ++ t) ≡ numeral base n v r
-unfolding numeral digitVal
-numeral-local base l [] t h n v = absurd h
-numeral-local base l (c ∷ r) t h zero v = refl
-numeral-local base l (c ∷ r) t h (suc n) v =
-    ⊎-elim (λ (is : c .code ≡ 10). rw (is, le-ltb 16 base l)) (λ (k : Ends r). rw (numeral-local base l r t k n (v * base + digitVal (c .code)))) (next c r h)
-
-escape-local : (quote : ℕ) (r t : List Char) → Ends r → escapeOf quote (r ++ t) ≡ escapeOf quote r
-unfolding escapeOf octalEscape hexEscape letter following digitVal
-escape-local quote [] t h = absurd h
-escape-local quote (c ∷ r) t h =
-    ⊎-elim (λ (is : c .code ≡ 10). rw is)
-    (λ (k : Ends r). rw (numeral-local 8 (omega arith) (c ∷ r) t h 3 0, numeral-local 16 (omega arith) r t k (following (c .code)) 0)) (next c r h)
-
 module _ (quote : ℕ) (q : quote ≡ 10 → ⊥) where
   from-local : (r t : List Char) (k : ℕ) → k < length r → Ends r → bodyFrom quote k (r ++ t) ≡ bodyFrom quote k r
   unfolding bodyFrom
@@ -91,7 +71,7 @@ module _ (quote : ℕ) (q : quote ≡ 10 → ⊥) where
         from-local r t (escapeOf quote r .len) (before _ r (in-escape NoLf (λ c n. n) quote q r) k) k,
         from-local r t 0 (ends-some r k) k,
       ))
-      (next c r h)
+      (ends-next c r h)
 
   -- the body is the same with more text behind, and does not read the line feed
   pub body-local : (r t : List Char) → Ends r → (body quote (r ++ t) ≡ body quote r) × (body quote r .len < length r)

@@ -18,13 +18,13 @@ use Rattle.utf8.proofs.Append.{first-stray}
 use Rattle.utf8.proofs.Encoding.{first-coded}
 use Rattle.errors.specs.Numbers.{OPEN-QUOTE}
 use Rattle.quotes.specs.declared.Quoted.{Quoted}
-use Rattle.quotes.specs.Answers.{character, noCharacter, Escape, bytesOf}
-use Rattle.quotes.specs.Escape.{escapeOf}
+use Rattle.escapes.specs.Answers.{character, noCharacter, Escape, bytesOf}
+use Rattle.escapes.specs.Escape.{escapeOf}
 use Rattle.quotes.specs.Body.{Body, ends, plain, escape, bodyFrom, body, bodyAt, quotedAt}
 use Rattle.quotes.specs.Steps.{emptyBody, added, escapePiece, charPiece, plainPiece, bodyEnd}
-use Rattle.quotes.proofs.Reading.{escape-rest, at-quote, at-lf, at-slash, at-plain}
+use Rattle.quotes.proofs.Reading.{at-quote, at-lf, at-slash, at-plain}
 use Rattle.quotes.proofs.Bounds.{Fresh}
-use Rattle.quotes.proofs.Heads.{escape-bound, escape-widths}
+use Rattle.escapes.proofs.Heads.{escape-bound, escape-widths, escape-rest}
 use Rattle.quotes.proofs.Bodies.{widths-split, strays-fit}
 
 -- what was read, and the rest

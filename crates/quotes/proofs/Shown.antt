@@ -19,10 +19,10 @@ use Rattle.utf8.specs.Chars.{firstChar, chars, isStray, widths, encode, encoded
 use Rattle.utf8.proofs.First.{chars-at, chars-end}
 use Rattle.utf8.proofs.Places.{place-fits}
 use Rattle.utf8.proofs.Encoding.{first-coded}
-use Rattle.quotes.specs.Answers.{Meaning, character, noCharacter}
-use Rattle.quotes.specs.Escape.{escapeOf}
+use Rattle.escapes.specs.Answers.{Meaning, character, noCharacter}
+use Rattle.escapes.specs.Escape.{escapeOf}
 use Rattle.quotes.specs.Body.{Body, escape, bodyFrom, body}
-use Rattle.quotes.proofs.Heads.{Heads, escape-heads}
+use Rattle.escapes.proofs.Heads.{Heads, escape-heads}
 use Rattle.quotes.proofs.Places.{stray-there}
 
 -- how many characters are stray bytes

@@ -9,8 +9,8 @@ use Rattle.utf8.specs.declared.Char.{Char}
 use Rattle.utf8.specs.Chars.{chars, widths, isStray, encode}
 use Rattle.errors.specs.Numbers.{OPEN-QUOTE}
 use Rattle.quotes.specs.declared.Quoted.{Quoted}
-use Rattle.quotes.specs.Answers.{Meaning, character, noCharacter, bytesOf}
-use Rattle.quotes.specs.Escape.{escapeOf}
+use Rattle.escapes.specs.Answers.{Meaning, character, noCharacter, bytesOf}
+use Rattle.escapes.specs.Escape.{escapeOf}
 
 pub record Body : Type 0 where
   -- how many characters are read, the closing quote included

@@ -1,6 +1,3 @@
-pub mod Answers
-pub mod Numeral
-pub mod Escape
 pub mod Plain
 pub mod Body
 pub mod Steps

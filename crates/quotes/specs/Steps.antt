@@ -8,7 +8,7 @@ use Rattle.utf8.specs.declared.Char.{Char}
 use Rattle.utf8.specs.Chars.{isStray}
 use Rattle.quotes.specs.declared.Quoted.{Quoted}
 use Rattle.quotes.specs.declared.body.Piece.{Piece}
-use Rattle.quotes.specs.Answers.{Meaning, character, noCharacter, bytesOf}
+use Rattle.escapes.specs.Answers.{Meaning, character, noCharacter, bytesOf}
 use Rattle.quotes.specs.Plain.{isPlainByte}
 
 -- before the first character

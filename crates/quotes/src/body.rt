@@ -1,12 +1,12 @@
 // The bodies of character literals and strings.
-use crate::Given;
 use crate::Quoted;
-use crate::escapes::escape_at;
+use escapes::Given;
+use escapes::escape_at;
 ghost use mathlib.Core.Path.{_≡_};
 ghost use Prim.Native.Nat.{_+_, _<_, _≤_, _^_, min};
 ghost use lib.ListN.{length, drop};
 ghost use Rattle.swar.specs.Lanes.{lanes};
-ghost use Rattle.quotes.specs.Answers.{meaningOf};
+ghost use Rattle.escapes.specs.Answers.{meaningOf};
 ghost use Rattle.quotes.specs.Body.{quotedAt};
 ghost use Rattle.quotes.specs.Literal.{doubleQuote, singleQuote};
 ghost use Rattle.quotes.specs.Plain.{isPlainByte, plainLen};

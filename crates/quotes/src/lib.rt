@@ -1,24 +1,9 @@
-// Quoted literals: escapes, and the bodies of character literals and double-quoted strings.
+// Quoted literals: the bodies of character literals and double-quoted strings.
 mod body;
-mod escapes;
-mod numeral;
 
 pub use body::char_body;
 pub use body::plain_string;
 pub use body::string_body;
-pub use escapes::escape_at;
-
-// What an escape gives: a character by its code, or one byte; or nothing, with the number of its error.
-pub enum Given {
-    Value { code: u32, byte: bool },
-    Bad { error: u8 },
-}
-
-// An escape: how many characters it has after the backslash, each of one byte where the quote is ASCII, and what it gives.
-pub struct Escaped {
-    pub len: usize,
-    pub given: Given,
-}
 
 // The body of a quoted literal, from after its opening quote.
 pub struct Quoted {

@@ -11,8 +11,8 @@ use Rattle.blanks.specs.Blank.{isSpace, isBlank, skip}
 use Rattle.numbers.specs.Run.{digitRun}
 use Rattle.numbers.specs.Number.{finish, decimalRest, decimal, prefixed, bareZero, leadingZero, withoutI, number}
 use Rattle.numbers.specs.Spelling.{numberText}
-use Rattle.quotes.specs.Numeral.{numeral}
-use Rattle.quotes.specs.Escape.{letter, byteOf, octalEscape, escapeOf}
+use Rattle.escapes.specs.Numeral.{numeral}
+use Rattle.escapes.specs.Escape.{letter, byteOf, octalEscape, escapeOf}
 use Rattle.quotes.specs.Body.{bodyFrom}
 use Rattle.spans.specs.Span.{toStop, toStarSlash}
 use Rattle.spans.specs.Body.{clean}

@@ -3,6 +3,7 @@ use Prim.Native.Nat.{ℕ, zero, suc, _<_}
 use mathlib.Core.Path.{_≡_, refl}
 use mathlib.Core.Bool.{true}
 use mathlib.Core.List.{List, [], _∷_, _++_}
+use mathlib.Core.Logic.{_⊎_, inl, inr}
 use native.Mathlib.Omega.{arith}
 use native.Mathlib.Nat.{not-suc-le-zero}
 use lib.Dec.{eqb}
@@ -24,6 +25,11 @@ ends-tail c (d ∷ r) h n = h
 pub ends-more : (c : Char) (r : List Char) → Ends (c ∷ r) → 0 < length r → Ends r
 ends-more c [] h l = absurd (not-suc-le-zero l)
 ends-more c (d ∷ r) h l = h
+
+-- the next character is that line feed, or it is still to come
+pub ends-next : (c : Char) (r : List Char) → Ends (c ∷ r) → (c .code ≡ 10) ⊎ Ends r
+ends-next c [] h = inl h
+ends-next c (d ∷ r) h = inr h
 
 pub ends-some : (r : List Char) → Ends r → 0 < length r
 ends-some [] h = absurd h

@@ -11,13 +11,14 @@ use lib.ListN.{length, getD, drop}
 use Rattle.utf8.specs.declared.Char.{Char}
 use Rattle.utf8.specs.Chars.{charAt, chars, encode}
 use Rattle.utf8.proofs.First.{chars-end}
-use Rattle.quotes.proofs.Given.{enum}
-use Rattle.quotes.specs.declared.Given.{Given}
-use Rattle.quotes.specs.declared.Given.the-variants.{Value, Bad}
-use Rattle.quotes.specs.Answers.{Meaning, character, Escape, meaningOf, bytesOf}
-use Rattle.quotes.specs.Escape.{escapeOf}
+use Rattle.escapes.proofs.Given.{enum}
+use Rattle.escapes.specs.declared.Given.{Given}
+use Rattle.escapes.specs.declared.Given.the-variants.{Value, Bad}
+use Rattle.escapes.specs.Answers.{Meaning, character, Escape, meaningOf, bytesOf}
+use Rattle.escapes.specs.Escape.{escapeOf}
 use Rattle.quotes.specs.Body.{Body, escape, bodyFrom, body}
-use Rattle.quotes.proofs.Reading.{escape-byte, at-quote, at-lf, at-slash, at-plain}
+use Rattle.escapes.proofs.Sizes.{escape-byte}
+use Rattle.quotes.proofs.Reading.{at-quote, at-lf, at-slash, at-plain}
 
 abbrev value-of : Body → List ℕ
 value-of b = b .value

@@ -2,14 +2,14 @@
 use crate::chars::write_clean;
 use crate::put::put;
 use crate::put::put_code;
-use quotes::Given;
+use escapes::Given;
 ghost use Prim.Native.Nat.{_≤_};
 ghost use mathlib.Core.Path.{_≡_};
 ghost use mathlib.Core.Bool.{true};
 ghost use lib.ListN.{drop};
 ghost use lib.Seq.{sets};
 ghost use Rattle.utf8.specs.Chars.{chars};
-ghost use Rattle.quotes.specs.Answers.{character, bytesOf};
+ghost use Rattle.escapes.specs.Answers.{character, bytesOf};
 ghost use Rattle.quotes.specs.Body.{body};
 ghost use Rattle.quotes.specs.Literal.{doubleQuote};
 ghost use Rattle.writing.specs.Written.{rawCount, rawValue};
@@ -42,7 +42,7 @@ pub fn write_interpreted(src: &[u8], at: usize, area: &mut [u8], to: usize)
             return;
         }
         if b == b'\\' {
-            let e = quotes::escape_at(src, p + 1, b'"');
+            let e = escapes::escape_at(src, p + 1, b'"');
             let given = e.given;
             let Given::Value { code, byte } = given else {
                 return;

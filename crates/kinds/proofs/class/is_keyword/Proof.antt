@@ -5,13 +5,13 @@ use borrow.Author.Needs.{needs}
 use Rattle.basics.specs.Between.{between}
 use Rattle.kinds.specs.Kinds.{BREAK, VAR}
 use Rattle.kinds.specs.Table.{isKeyword, rowOf, table, specials, operators, keywords}
-use Rattle.kinds.proofs.Ranges.{test-between}
+use Rattle.kinds.proofs.Ranges.{same-tests}
 use Rattle.kinds.proofs.class.is_keyword.Statement.{statement}
 use Rattle.kinds.proofs.class.is_keyword.Tie as tie
 
 range : (k : ℕ) → k < 256 → isKeyword k ≡ between BREAK k VAR
 unfolding rowOf table specials operators keywords
-range k h = test-between isKeyword BREAK VAR tt k h
+range k h = same-tests isKeyword (λ m. between BREAK m VAR) tt k h
 
 is-between-requires : tie.Need-is-between-requires
 is-between-requires c κs = search needs

@@ -5,13 +5,13 @@ use borrow.Author.Needs.{needs}
 use Rattle.basics.specs.Between.{between}
 use Rattle.kinds.specs.Kinds.{IDENT, STRING}
 use Rattle.kinds.specs.Table.{isLiteral, rowOf, table, specials, operators, keywords}
-use Rattle.kinds.proofs.Ranges.{test-between}
+use Rattle.kinds.proofs.Ranges.{same-tests}
 use Rattle.kinds.proofs.class.is_literal.Statement.{statement}
 use Rattle.kinds.proofs.class.is_literal.Tie as tie
 
 range : (k : ℕ) → k < 256 → isLiteral k ≡ between IDENT k STRING
 unfolding rowOf table specials operators keywords
-range k h = test-between isLiteral IDENT STRING tt k h
+range k h = same-tests isLiteral (λ m. between IDENT m STRING) tt k h
 
 is-between-requires : tie.Need-is-between-requires
 is-between-requires c κs = search needs

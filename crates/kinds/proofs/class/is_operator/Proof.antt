@@ -5,13 +5,13 @@ use borrow.Author.Needs.{needs}
 use Rattle.basics.specs.Between.{between}
 use Rattle.kinds.specs.Kinds.{ADD, COLON}
 use Rattle.kinds.specs.Table.{isOperator, rowOf, table, specials, operators, keywords}
-use Rattle.kinds.proofs.Ranges.{test-between}
+use Rattle.kinds.proofs.Ranges.{same-tests}
 use Rattle.kinds.proofs.class.is_operator.Statement.{statement}
 use Rattle.kinds.proofs.class.is_operator.Tie as tie
 
 range : (k : ℕ) → k < 256 → isOperator k ≡ between ADD k COLON
 unfolding rowOf table specials operators keywords
-range k h = test-between isOperator ADD COLON tt k h
+range k h = same-tests isOperator (λ m. between ADD m COLON) tt k h
 
 is-between-requires : tie.Need-is-between-requires
 is-between-requires c κs = search needs

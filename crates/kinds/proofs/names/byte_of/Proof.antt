@@ -29,12 +29,15 @@ unfolding rowOf table specials operators keywords
 byte-at p h = eqb→eq _ _ (every-entry right names 0 tt p h)
 
 mul-result : tie.Need-mul-result
+unfolding table specials operators keywords
 mul-result c = search needs
 
 add-result : tie.Need-add-result
+unfolding table specials operators keywords
 add-result c = search needs
 
 array-read-result : tie.Need-array-read-result
+unfolding table specials operators keywords
 array-read-result c = search needs
 
 returns : tie.Need-returns

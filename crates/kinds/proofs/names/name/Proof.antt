@@ -26,6 +26,7 @@ loop-holds : tie.Need-loop-holds Inv-loop μ-loop
 loop-holds c = (search needs, refl)
 
 byte-of-requires : tie.Need-byte-of-requires Inv-loop μ-loop
+unfolding table specials operators keywords
 byte-of-requires c κs = search needs
 
 -- the whole name is passed

@@ -8,13 +8,13 @@ use types.Run.{OneOf}
 use denote.Enum.Declared.{tagOf, declared}
 use lib.ListN.{length, getD}
 use Rattle.utf8.proofs.First.{there-fits, there-least}
-use Rattle.quotes.proofs.Given.{enum}
-use Rattle.quotes.specs.declared.Given.{Given}
-use Rattle.quotes.specs.declared.Given.the-variants.{Value, Bad}
-use Rattle.quotes.specs.Answers.{character, noCharacter, meaningOf, says}
+use Rattle.escapes.proofs.Given.{enum}
+use Rattle.escapes.specs.declared.Given.{Given}
+use Rattle.escapes.specs.declared.Given.the-variants.{Value, Bad}
+use Rattle.escapes.specs.Answers.{character, noCharacter, meaningOf, says}
 use Rattle.quotes.specs.Body.{quotedAt}
 use Rattle.quotes.specs.Steps.{errorOf, escapePiece, charPiece, plainPiece}
-use Rattle.quotes.proofs.Bodies.{escape-gives}
+use Rattle.escapes.proofs.Sizes.{escape-gives}
 use Rattle.quotes.proofs.Bounds.{Within, Sized, escape-sized, char-sized, plain-sized, added-within, room-add, room-stop, less, next, still, sooner, one-le, none-le, right-part, fit64}
 use Rattle.quotes.proofs.Places.{joined, joined-start, escape-fits, step-end, step-quote, step-lf, step-bad, step-escape, step-plain}
 use Rattle.quotes.proofs.PlainRuns.{run-len, run-some, run-fits, step-run}

@@ -6,7 +6,7 @@ use borrow.Author.Needs.{needs}
 use lib.ListN.{length}
 use lib.Seq.{sets}
 use Rattle.utf8.proofs.First.{there-fits, there-least}
-use Rattle.quotes.specs.Answers.{meaningOf, says}
+use Rattle.escapes.specs.Answers.{meaningOf, says}
 use Rattle.quotes.proofs.Bounds.{fit64, right-part, less, one-le, next}
 use Rattle.quotes.proofs.Places.{escape-fits}
 use Rattle.writing.proofs.Areas.{left-as, finished}

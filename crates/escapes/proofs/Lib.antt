@@ -1,0 +1,6 @@
+pub mod Numerals
+pub mod EscapeLaws
+pub mod Heads
+pub mod Local
+pub mod Sizes
+pub mod Shorter
