@@ -11,7 +11,7 @@ use Rattle.state.specs.Layout.{stateWidth, stateIn, stateNumbers}
 use Rattle.batch.specs.Many.{ManyLeft, scanManyOf}
 
 -- what the exported function leaves in the lent slices, and its refusal or 0
-pub record Scans : Type 0 where
+pub record ManyCallLeft : Type 0 where
   pub refusal : ℕ
   pub state : List ℕ
   pub table : List ℕ
@@ -21,12 +21,12 @@ pub record Scans : Type 0 where
   pub answer : List ℕ
 
 -- a refusal leaves all as it was
-abbrev pub scansRefused : ℕ → List ℕ → List ℕ → List ℕ → List ℕ → List ℕ → List ℕ → Scans
+abbrev pub scansRefused : ℕ → List ℕ → List ℕ → List ℕ → List ℕ → List ℕ → List ℕ → ManyCallLeft
 scansRefused n state table list area tokens answer =
     record { refusal = n; state = state; table = table; list = list; area = area; tokens = tokens; answer = answer }
 
 -- what scans leave: state and count go to their slices
-abbrev pub scansBy : ManyLeft → List ℕ → List ℕ → Scans
+abbrev pub scansBy : ManyLeft → List ℕ → List ℕ → ManyCallLeft
 scansBy l state answer =
     record {
       refusal = 0;
@@ -39,7 +39,7 @@ scansBy l state answer =
     }
 
 -- it is refused where a slice is too short for a state or an answer, and where many scans from the state in the numbers are
-unfoldable pub scanManyNumbers : List ℕ → List ℕ → List ℕ → List ℕ → List ℕ → List ℕ → List ℕ → Scans
+unfoldable pub scanManyNumbers : List ℕ → List ℕ → List ℕ → List ℕ → List ℕ → List ℕ → List ℕ → ManyCallLeft
 scanManyNumbers src state table list area tokens answer =
     let l = scanManyOf src (stateIn state) table list area tokens in
     cond (tooShort (length state) stateWidth (length answer) 1) (scansRefused DOES-NOT-FIT state table list area tokens answer)

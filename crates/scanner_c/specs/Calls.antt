@@ -12,7 +12,7 @@ use Rattle.parts.specs.Layout.{tokenWidth, tokenNumbers}
 use Rattle.scanner.specs.Scan.{ScanLeft, scanOf}
 
 -- what a scan leaves in the lent slices, and its refusal or 0
-pub record Scanned : Type 0 where
+pub record ScanCallLeft : Type 0 where
   pub refusal : ℕ
   pub state : List ℕ
   pub table : List ℕ
@@ -25,7 +25,7 @@ abbrev pub unlessRefused : ℕ → List ℕ → List ℕ → List ℕ
 unlessRefused refusal numbers n = cond (eqb refusal 0) (sets n 0 numbers) n
 
 -- a refused scan leaves state and token as they were
-abbrev pub scannedBy : ScanLeft → List ℕ → List ℕ → Scanned
+abbrev pub scannedBy : ScanLeft → List ℕ → List ℕ → ScanCallLeft
 scannedBy a state token =
     record {
       refusal = a .answer .refusal;
@@ -37,7 +37,7 @@ scannedBy a state token =
     }
 
 -- a slice that is too short for a state or a token is refused by 6, and nothing is written
-unfoldable pub scanNumbers : List ℕ → List ℕ → List ℕ → List ℕ → List ℕ → List ℕ → Scanned
+unfoldable pub scanNumbers : List ℕ → List ℕ → List ℕ → List ℕ → List ℕ → List ℕ → ScanCallLeft
 scanNumbers src state table list area token =
     cond (tooShort (length state) stateWidth (length token) tokenWidth)
     (record { refusal = DOES-NOT-FIT; state = state; table = table; list = list; area = area; token = token })

@@ -13,7 +13,7 @@ use Rattle.refusal.proofs.Lengths.{long-enough}
 use Rattle.state.specs.Layout.{stateWidth, stateIn}
 use Rattle.batch.specs.Many.{ManyLeft, scanManyOf}
 use Rattle.batch.proofs.Given.{many-kept}
-use Rattle.batch_c.specs.Many.{Scans, scansBy, scanManyNumbers}
+use Rattle.batch_c.specs.Many.{ManyCallLeft, scansBy, scanManyNumbers}
 use Rattle.batch_c.proofs.calls.scanner_scan_many.Statement.{statement}
 use Rattle.batch_c.proofs.calls.scanner_scan_many.Tie as tie
 
@@ -25,7 +25,7 @@ module _ (src state table list area tokens answer : List ℕ) (fits : tooShort (
   gave z = rw (fits, ← e, eq-eqb _ _ z)
 
   kept : (l .refusal ≡ 0 → ⊥)
-      → _≡_ {A = Scans} (record { refusal = l .refusal; state = state; table = l .table; list = l .list; area = l .area; tokens = l .tokens; answer = answer })
+      → _≡_ {A = ManyCallLeft} (record { refusal = l .refusal; state = state; table = l .table; list = l .list; area = l .area; tokens = l .tokens; answer = answer })
       (scanManyNumbers src state table list area tokens answer)
   unfolding scanManyNumbers
   kept f =

@@ -13,13 +13,13 @@ use Rattle.refusal.proofs.Lengths.{long-enough}
 use Rattle.state.specs.Layout.{stateWidth, stateNumbers}
 use Rattle.parts.specs.Layout.{tokenWidth, tokenNumbers}
 use Rattle.scanner.specs.Scan.{ScanLeft}
-use Rattle.scanner_c.specs.Calls.{Scanned, scannedBy, scanNumbers}
+use Rattle.scanner_c.specs.Calls.{ScanCallLeft, scannedBy, scanNumbers}
 use Rattle.scanner_c.proofs.calls.scanner_scan.Statement.{statement}
 use Rattle.scanner_c.proofs.calls.scanner_scan.Tie as tie
 
 -- a scan that is not refused
 gave : (a : ScanLeft) (state token : List ℕ) → a .answer .refusal ≡ 0
-    → _≡_ {A = Scanned}
+    → _≡_ {A = ScanCallLeft}
     (record {
       refusal = 0;
       state = sets state 0 (stateNumbers (a .answer .state));
