@@ -14,9 +14,9 @@ use Rattle.utf8.specs.declared.Char.{Char}
 use Rattle.utf8.specs.Chars.{ended, chars, widths}
 use Rattle.utf8.proofs.Places.{ascii-widths, place-chars}
 use Rattle.digits.specs.Digit.{digitVal}
-use Rattle.escapes.specs.declared.numeral.Numeral.{Numeral}
+use Rattle.escapes.specs.declared.escape_digits.EscapeDigits.{EscapeDigits}
 use Rattle.escapes.specs.Answers.{Escape}
-use Rattle.escapes.specs.Numeral.{numeral}
+use Rattle.escapes.specs.EscapeDigits.{escapeDigits}
 use Rattle.escapes.specs.Escape.{letter, following, octalEscape, hexEscape, escapeOf}
 use Rattle.escapes.proofs.EscapeLaws.{Out, letter-out, following-out}
 
@@ -58,20 +58,20 @@ digit-in c d = within c (λ o. omega (arith, digit-out c o))
 
 -- ---- what holds of the quote and of all codes between 0 and z holds of what an escape reads
 module _ (P : ℕ → Type 0) (inside : (c : ℕ) → 48 ≤ c → c ≤ 122 → P c) where
-  pub numeral-heads : (base n v : ℕ) (r : List Char) → base ≤ 16 → Heads P (numeral base n v r .len) r
-  unfolding numeral
-  numeral-heads base zero v r l = tt
-  numeral-heads base (suc n) v [] l = tt
-  numeral-heads base (suc n) v (c ∷ r) l =
-      let ih = numeral-heads base n (v * base + digitVal (c .code)) r l in
-      cond-ind (λ (x : Numeral). Heads P (x .len) (c ∷ r)) (ltb (digitVal (c .code)) base) _ _
+  pub digits-heads : (base n v : ℕ) (r : List Char) → base ≤ 16 → Heads P (escapeDigits base n v r .len) r
+  unfolding escapeDigits
+  digits-heads base zero v r l = tt
+  digits-heads base (suc n) v [] l = tt
+  digits-heads base (suc n) v (c ∷ r) l =
+      let ih = digits-heads base n (v * base + digitVal (c .code)) r l in
+      cond-ind (λ (x : EscapeDigits). Heads P (x .len) (c ∷ r)) (ltb (digitVal (c .code)) base) _ _
       (λ d. let g = digit-in (c .code) (omega (arith, ltb-true (digitVal (c .code)) base d)) in (inside (c .code) (g .0) (g .1), ih)) (λ _. tt)
 
   hex-heads : (c : Char) (r : List Char) → Heads P (hexEscape (c .code) r .len) (c ∷ r)
   unfolding hexEscape
   hex-heads c r =
       cond-ind (λ (x : Escape). Heads P (x .len) (c ∷ r)) (eqb (following (c .code)) 0) _ _ (λ _. tt)
-      (λ f. let g = within (c .code) (λ o. eqb-false _ _ f (following-out (c .code) o)) in (inside (c .code) (g .0) (g .1), numeral-heads 16 (following (c .code)) 0 r (omega arith)))
+      (λ f. let g = within (c .code) (λ o. eqb-false _ _ f (following-out (c .code) o)) in (inside (c .code) (g .0) (g .1), digits-heads 16 (following (c .code)) 0 r (omega arith)))
 
   module _ (quote : ℕ) (at-quote : P quote) where
     pub escape-heads : (r : List Char) → Heads P (escapeOf quote r .len) r
@@ -82,7 +82,7 @@ module _ (P : ℕ → Type 0) (inside : (c : ℕ) → 48 ≤ c → c ≤ 122 →
         (λ _. cond-ind (λ (x : Escape). Heads P (x .len) (c ∷ r)) (eqb (c .code) quote) _ _
         (λ q. (subst P (sym (eqb-true (c .code) quote q)) at-quote, tt))
         (λ _. cond-ind (λ (x : Escape). Heads P (x .len) (c ∷ r)) (ltb (digitVal (c .code)) 8) _ _
-        (λ _. numeral-heads 8 3 0 (c ∷ r) (omega arith)) (λ _. hex-heads c r)))
+        (λ _. digits-heads 8 3 0 (c ∷ r) (omega arith)) (λ _. hex-heads c r)))
         (λ l. let g = within (c .code) (λ o. eqb-false _ _ l (letter-out (c .code) o)) in (inside (c .code) (g .0) (g .1), tt))
 
 -- an escape reads characters of the text

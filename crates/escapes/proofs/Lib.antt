@@ -1,4 +1,4 @@
-pub mod Numerals
+pub mod DigitLaws
 pub mod EscapeLaws
 pub mod Heads
 pub mod Local

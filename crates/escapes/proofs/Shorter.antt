@@ -12,21 +12,21 @@ use Rattle.basics.proofs.Choice.{cond-ind, true-of}
 use Rattle.utf8.specs.declared.Char.{Char}
 use Rattle.utf8.specs.Chars.{octets, encode}
 use Rattle.digits.specs.Digit.{digitVal}
-use Rattle.escapes.specs.declared.numeral.Numeral.{Numeral}
+use Rattle.escapes.specs.declared.escape_digits.EscapeDigits.{EscapeDigits}
 use Rattle.escapes.specs.Answers.{Meaning, Escape, bytesOf}
-use Rattle.escapes.specs.Numeral.{numeral}
+use Rattle.escapes.specs.EscapeDigits.{escapeDigits}
 use Rattle.escapes.specs.Escape.{letters, letter, following, codePointOf, octalEscape, hexEscape, escapeOf}
 use Rattle.escapes.proofs.Sizes.{encode-most, byte-most}
 use Rattle.escapes.proofs.EscapeLaws.{entry-ind}
 
 -- digits without an error are as many as asked for
-numeral-whole : (base : ℕ) (r : List Char) (n v : ℕ) → numeral base n v r .error ≡ 0 → numeral base n v r .len ≡ n
-unfolding numeral
-numeral-whole base r zero v = λ h. refl
-numeral-whole base [] (suc n) v = λ h. absurd (omega arith)
-numeral-whole base (c ∷ r) (suc n) v =
-    cond-ind (λ (x : Numeral). x .error ≡ 0 → x .len ≡ suc n) (ltb (digitVal (c .code)) base) _ _
-    (λ _ h. ap suc (numeral-whole base r n (v * base + digitVal (c .code)) h)) (λ _ h. absurd (omega arith))
+digits-whole : (base : ℕ) (r : List Char) (n v : ℕ) → escapeDigits base n v r .error ≡ 0 → escapeDigits base n v r .len ≡ n
+unfolding escapeDigits
+digits-whole base r zero v = λ h. refl
+digits-whole base [] (suc n) v = λ h. absurd (omega arith)
+digits-whole base (c ∷ r) (suc n) v =
+    cond-ind (λ (x : EscapeDigits). x .error ≡ 0 → x .len ≡ suc n) (ltb (digitVal (c .code)) base) _ _
+    (λ _ h. ap suc (digits-whole base r n (v * base + digitVal (c .code)) h)) (λ _ h. absurd (omega arith))
 
 -- u and U are followed by four digits or more
 following-code : (c : ℕ) → eqb c 120 ≡ false → eqb (following c) 0 ≡ false → 4 ≤ following c
@@ -50,7 +50,7 @@ letter-low c = entry-ind (λ row. ltb (row .1) 0x80) (λ n. n < 0x80) c (lit< tt
 abbrev Shorter : Escape → Type 0
 Shorter x = length (bytesOf (x .meaning)) ≤ x .len
 
-code-short : (n : Numeral) (m : ℕ) → (n .error ≡ 0 → 4 ≤ m) → length (bytesOf (codePointOf n)) ≤ m
+code-short : (n : EscapeDigits) (m : ℕ) → (n .error ≡ 0 → 4 ≤ m) → length (bytesOf (codePointOf n)) ≤ m
 unfolding codePointOf
 code-short n m f =
     cond-ind (λ (g : Meaning). length (bytesOf g) ≤ m) (eqb (n .error) 0) _ _
@@ -62,19 +62,19 @@ code-short n m f =
 hex-shorter : (first : ℕ) (r : List Char) → Shorter (hexEscape first r)
 unfolding hexEscape
 hex-shorter first r =
-    let n = numeral 16 (following first) 0 r in
+    let n = escapeDigits 16 (following first) 0 r in
     cond-ind Shorter (eqb (following first) 0) _ _ (λ _. lit≤ tt)
     (λ f. cond-ind (λ (g : Meaning). length (bytesOf g) ≤ suc (n .len)) (eqb first 120) _ _
     (λ _. omega (arith, byte-most n))
-    (λ e. code-short n (suc (n .len)) (λ z. omega (arith, numeral-whole 16 r (following first) 0 z, following-code first e f))))
+    (λ e. code-short n (suc (n .len)) (λ z. omega (arith, digits-whole 16 r (following first) 0 z, following-code first e f))))
 
-octal-some : (c : Char) (r : List Char) → ltb (digitVal (c .code)) 8 ≡ true → 1 ≤ numeral 8 3 0 (c ∷ r) .len
-unfolding numeral
+octal-some : (c : Char) (r : List Char) → ltb (digitVal (c .code)) 8 ≡ true → 1 ≤ escapeDigits 8 3 0 (c ∷ r) .len
+unfolding escapeDigits
 octal-some c r d = rw d (omega arith)
 
 octal-shorter : (c : Char) (r : List Char) → ltb (digitVal (c .code)) 8 ≡ true → Shorter (octalEscape (c ∷ r))
 unfolding octalEscape
-octal-shorter c r d = omega (arith, byte-most (numeral 8 3 0 (c ∷ r)), octal-some c r d)
+octal-shorter c r d = omega (arith, byte-most (escapeDigits 8 3 0 (c ∷ r)), octal-some c r d)
 
 pub escape-shorter : (quote : ℕ) → quote < 0x80 → (r : List Char) → Shorter (escapeOf quote r)
 unfolding escapeOf

@@ -12,9 +12,9 @@ use Rattle.basics.proofs.Choice.{cond-ind}
 use Rattle.utf8.specs.declared.Char.{Char}
 use Rattle.utf8.specs.Chars.{octets, isScalar, encode}
 use Rattle.digits.specs.Digit.{digitVal}
-use Rattle.escapes.specs.declared.numeral.Numeral.{Numeral}
+use Rattle.escapes.specs.declared.escape_digits.EscapeDigits.{EscapeDigits}
 use Rattle.escapes.specs.Answers.{Meaning, character, noCharacter, Escape, bytesOf}
-use Rattle.escapes.specs.Numeral.{numeral}
+use Rattle.escapes.specs.EscapeDigits.{escapeDigits}
 use Rattle.escapes.specs.Escape.{letter, following, byteOf, codePointOf, octalEscape, hexEscape, escapeOf}
 
 -- ---- what an escape gives is at most twice as long as the escape with its backslash
@@ -40,7 +40,7 @@ given-most (character code true) = lit≤ tt
 given-most (character code false) = encode-most code
 given-most (noCharacter error) = lit≤ tt
 
-pub byte-most : (n : Numeral) → length (bytesOf (byteOf n)) ≤ 1
+pub byte-most : (n : EscapeDigits) → length (bytesOf (byteOf n)) ≤ 1
 unfolding byteOf
 byte-most n =
     cond-ind One (eqb (n .error) 0) _ _ (λ _. cond-ind One (ltb 255 (n .value)) _ _ (λ _. lit≤ tt) (λ _. lit≤ tt)) (λ _. lit≤ tt)
@@ -49,7 +49,7 @@ hex-bytes : (first : ℕ) (r : List Char) → Twice (hexEscape first r)
 unfolding hexEscape
 hex-bytes first r =
     cond-ind Twice (eqb (following first) 0) _ _ (λ _. lit≤ tt)
-    (λ _. omega (arith, given-most (cond (eqb first 120) (byteOf (numeral 16 (following first) 0 r)) (codePointOf (numeral 16 (following first) 0 r)))))
+    (λ _. omega (arith, given-most (cond (eqb first 120) (byteOf (escapeDigits 16 (following first) 0 r)) (codePointOf (escapeDigits 16 (following first) 0 r)))))
 
 escape-bytes : (quote : ℕ) (r : List Char) → Twice (escapeOf quote r)
 unfolding escapeOf octalEscape
@@ -57,7 +57,7 @@ escape-bytes quote [] = lit≤ tt
 escape-bytes quote (c ∷ r) =
     cond-ind Twice (eqb (letter (c .code)) 0) _ _
     (λ _. cond-ind Twice (eqb (c .code) quote) _ _ (λ _. encode-most (c .code))
-    (λ _. cond-ind Twice (ltb (digitVal (c .code)) 8) _ _ (λ _. omega (arith, byte-most (numeral 8 3 0 (c ∷ r)))) (λ _. hex-bytes (c .code) r)))
+    (λ _. cond-ind Twice (ltb (digitVal (c .code)) 8) _ _ (λ _. omega (arith, byte-most (escapeDigits 8 3 0 (c ∷ r)))) (λ _. hex-bytes (c .code) r)))
     (λ _. encode-most (letter (c .code)))
 
 pub escape-gives : (quote : ℕ) (r : List Char) (x : Escape) (g : Meaning) → x ≡ escapeOf quote r → x .meaning ≡ g → length (bytesOf g) ≤ 2 * (x .len + 1)
@@ -69,12 +69,12 @@ Small (character code true) = code ≤ 255
 Small (character code false) = Unit {0}
 Small (noCharacter error) = Unit {0}
 
-byte-small : (n : Numeral) → Small (byteOf n)
+byte-small : (n : EscapeDigits) → Small (byteOf n)
 unfolding byteOf
 byte-small n =
     cond-ind Small (eqb (n .error) 0) _ _ (λ _. cond-ind Small (ltb 255 (n .value)) _ _ (λ _. tt) (λ e. ltb-false 255 (n .value) e)) (λ _. tt)
 
-code-small : (n : Numeral) → Small (codePointOf n)
+code-small : (n : EscapeDigits) → Small (codePointOf n)
 unfolding codePointOf
 code-small n =
     cond-ind Small (eqb (n .error) 0) _ _
@@ -89,9 +89,9 @@ escape-small quote [] = tt
 escape-small quote (c ∷ r) =
     cond-ind SmallEscape (eqb (letter (c .code)) 0) _ _
     (λ _. cond-ind SmallEscape (eqb (c .code) quote) _ _ (λ _. tt)
-    (λ _. cond-ind SmallEscape (ltb (digitVal (c .code)) 8) _ _ (λ _. byte-small (numeral 8 3 0 (c ∷ r)))
+    (λ _. cond-ind SmallEscape (ltb (digitVal (c .code)) 8) _ _ (λ _. byte-small (escapeDigits 8 3 0 (c ∷ r)))
     (λ _. cond-ind SmallEscape (eqb (following (c .code)) 0) _ _ (λ _. tt)
-    (λ _. cond-ind Small (eqb (c .code) 120) _ _ (λ _. byte-small (numeral 16 (following (c .code)) 0 r)) (λ _. code-small (numeral 16 (following (c .code)) 0 r))))))
+    (λ _. cond-ind Small (eqb (c .code) 120) _ _ (λ _. byte-small (escapeDigits 16 (following (c .code)) 0 r)) (λ _. code-small (escapeDigits 16 (following (c .code)) 0 r))))))
     (λ _. tt)
 
 pub escape-byte : (quote : ℕ) (r : List Char) (code : ℕ) → escapeOf quote r .meaning ≡ character code true → code ≤ 255

@@ -8,9 +8,9 @@ use Rattle.basics.specs.Between.{between}
 use Rattle.utf8.specs.declared.Char.{Char}
 use Rattle.errors.specs.Numbers.{UNKNOWN-ESCAPE, CUT-ESCAPE, NO-CODE-POINT}
 use Rattle.digits.specs.Digit.{digitVal}
-use Rattle.escapes.specs.declared.numeral.Numeral.{Numeral}
+use Rattle.escapes.specs.declared.escape_digits.EscapeDigits.{EscapeDigits}
 use Rattle.escapes.specs.Answers.{Meaning, character, noCharacter, Escape}
-use Rattle.escapes.specs.Numeral.{numeral}
+use Rattle.escapes.specs.EscapeDigits.{escapeDigits}
 
 -- the entry of a table for a character; 0 where it has none
 abbrev pub entryFor : ℕ → List (ℕ × ℕ) → ℕ
@@ -45,11 +45,11 @@ abbrev pub overRange : Meaning
 overRange = noCharacter 0
 
 -- a byte by its digits
-unfoldable pub byteOf : Numeral → Meaning
+unfoldable pub byteOf : EscapeDigits → Meaning
 byteOf n = cond (eqb (n .error) 0) (cond (ltb 0xFF (n .value)) overRange (character (n .value) true)) (noCharacter (n .error))
 
 -- a code by its digits; a surrogate is no code point
-unfoldable pub codePointOf : Numeral → Meaning
+unfoldable pub codePointOf : EscapeDigits → Meaning
 codePointOf n =
     cond (eqb (n .error) 0)
     (cond (ltb 0x10FFFF (n .value)) overRange (cond (between 0xD800 (n .value) 0xDFFF) (noCharacter NO-CODE-POINT) (character (n .value) false)))
@@ -65,15 +65,15 @@ singleEscape c = record { len = 1; meaning = character c false }
 
 -- three octal digits
 unfoldable pub octalEscape : List Char → Escape
-octalEscape r = record { len = numeral 8 3 0 r .len; meaning = byteOf (numeral 8 3 0 r) }
+octalEscape r = record { len = escapeDigits 8 3 0 r .len; meaning = byteOf (escapeDigits 8 3 0 r) }
 
 -- the escape of hexadecimal digits, by its first character and what follows it
 unfoldable pub hexEscape : ℕ → List Char → Escape
 hexEscape first r =
     cond (eqb (following first) 0) (unreadEscape UNKNOWN-ESCAPE)
     (record {
-      len = suc (numeral 16 (following first) 0 r .len);
-      meaning = cond (eqb first (code "x")) (byteOf (numeral 16 (following first) 0 r)) (codePointOf (numeral 16 (following first) 0 r));
+      len = suc (escapeDigits 16 (following first) 0 r .len);
+      meaning = cond (eqb first (code "x")) (byteOf (escapeDigits 16 (following first) 0 r)) (codePointOf (escapeDigits 16 (following first) 0 r));
     })
 
 -- the escape that follows a backslash in a literal with the quote given; the end of the text cuts it

@@ -1,3 +1,3 @@
 pub mod Answers
-pub mod Numeral
+pub mod EscapeDigits
 pub mod Escape

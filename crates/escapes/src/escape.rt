@@ -1,8 +1,8 @@
 // Escapes.
 use crate::Escaped;
 use crate::Given;
-use crate::numeral::Numeral;
-use crate::numeral::numeral_at;
+use crate::escape_digits::EscapeDigits;
+use crate::escape_digits::digits_at;
 ghost use mathlib.Core.Path.{_≡_};
 ghost use lib.ListN.{drop};
 ghost use Rattle.utf8.specs.Chars.{chars};
@@ -30,7 +30,7 @@ fn letter_code(b: u8) -> u8
 }
 
 // What digits give that stand for a byte.
-fn byte_of(n: Numeral) -> Given
+fn byte_of(n: EscapeDigits) -> Given
     ensures { λ r. ⌜ meaningOf r ≡ byteOf n ⌝ }
 {
     let error = n.error;
@@ -45,7 +45,7 @@ fn byte_of(n: Numeral) -> Given
 }
 
 // What digits give that stand for a code.
-fn code_of(n: Numeral) -> Given
+fn code_of(n: EscapeDigits) -> Given
     ensures { λ r. ⌜ meaningOf r ≡ codePointOf n ⌝ }
 {
     let error = n.error;
@@ -97,7 +97,7 @@ fn hex_at(src: &[u8], at: usize, first: u8) -> Escaped
     if count == 0 {
         return unread(errors::UNKNOWN_ESCAPE);
     }
-    let n = numeral_at(src, at, 16, count);
+    let n = digits_at(src, at, 16, count);
     let len = n.len + 1;
     if first == b'x' {
         return Escaped {
@@ -115,7 +115,7 @@ fn hex_at(src: &[u8], at: usize, first: u8) -> Escaped
 fn octal_at(src: &[u8], at: usize) -> Escaped
     ensures { λ r. ⌜ says r ≡ octalEscape (chars (drop at (now (src .entry)))) ⌝ }
 {
-    let n = numeral_at(src, at, 8, 3);
+    let n = digits_at(src, at, 8, 3);
     Escaped {
         len: n.len,
         given: byte_of(n),

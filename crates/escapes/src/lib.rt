@@ -1,6 +1,6 @@
 // Escapes: what follows a backslash in a quoted literal.
 mod escape;
-mod numeral;
+mod escape_digits;
 
 pub use escape::escape_at;
 

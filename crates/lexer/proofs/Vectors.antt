@@ -17,7 +17,7 @@ use Rattle.numbers.specs.declared.Spelling.the-variants.{LowerPrefix, OctalPref
 use Rattle.numbers.specs.Run.{digitRun, strictRun}
 use Rattle.numbers.specs.Number.{decimal, prefixed, bareZero, leadingZero, withoutI, number}
 use Rattle.numbers.specs.Spelling.{numberText}
-use Rattle.escapes.specs.Numeral.{numeral}
+use Rattle.escapes.specs.EscapeDigits.{escapeDigits}
 use Rattle.escapes.specs.Escape.{letter, byteOf, octalEscape, escapeOf}
 use Rattle.quotes.specs.Body.{bodyFrom}
 use Rattle.spans.specs.Span.{toStop, toStarSlash}
@@ -78,7 +78,7 @@ unfolding charsFrom firstChar octets encode skip isBlank isSpace isLetter bodyFr
 no-character = refl
 
 over-range : first false "\"\\400\"" ≡ shown ILLEGAL 5 (spelled "\"\\400") 0 true
-unfolding charsFrom firstChar octets encode skip isBlank isSpace isLetter digitVal numeral letter byteOf octalEscape escapeOf bodyFrom lexString lexBy lexToken lex
+unfolding charsFrom firstChar octets encode skip isBlank isSpace isLetter digitVal escapeDigits letter byteOf octalEscape escapeOf bodyFrom lexString lexBy lexToken lex
 over-range = refl
 
 -- `/* c */ r` under the mark: the comment does not end the line

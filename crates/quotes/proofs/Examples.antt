@@ -9,7 +9,7 @@ use Rattle.utf8.specs.Chars.{chars, charsFrom, firstChar, octets, encode}
 use Rattle.kinds.specs.Kinds.{ILLEGAL}
 use Rattle.errors.specs.Numbers.{OPEN-QUOTE, UNKNOWN-ESCAPE, CUT-ESCAPE, BAD-ESCAPE, NO-CODE-POINT, NOT-ONE-CHARACTER}
 use Rattle.digits.specs.Digit.{digitVal}
-use Rattle.escapes.specs.Numeral.{numeral}
+use Rattle.escapes.specs.EscapeDigits.{escapeDigits}
 use Rattle.escapes.specs.Escape.{letter, byteOf, codePointOf, octalEscape, following, hexEscape, escapeOf}
 use Rattle.quotes.specs.Body.{Body, bodyFrom, body, bodyAt, quotedAt}
 use Rattle.quotes.specs.Literal.{doubleQuote, singleQuote, charKind, charError}
@@ -40,5 +40,5 @@ pub examples :
     × (charError (character (spelled "ab")) ≡ OPEN-QUOTE)
     × (string (spelled "\\u00e9\\n\"") .value ≡ 0xC3 ∷ 0xA9 ∷ code "\n" ∷ [])
     × (quotedAt doubleQuote (code "x" ∷ 0xFF ∷ doubleQuote ∷ []) 0 ≡ record { end = 3; chars = 3; closed = true; error = 0; count = 2; code = code "x"; escaped = false; strays = 1; bytes = 2 })
-unfolding charsFrom firstChar octets encode digitVal numeral letter byteOf codePointOf octalEscape following hexEscape escapeOf bodyFrom bodyAt
+unfolding charsFrom firstChar octets encode digitVal escapeDigits letter byteOf codePointOf octalEscape following hexEscape escapeOf bodyFrom bodyAt
 examples = (refl, refl, refl, refl, refl, refl, refl, refl, refl, refl, refl, refl, refl, refl)

@@ -4,15 +4,15 @@ use borrow.Author.Needs.{needs}
 use Rattle.escapes.proofs.escape.octal_at.Statement.{statement}
 use Rattle.escapes.proofs.escape.octal_at.Tie as tie
 
-numeral-at-requires : tie.Need-numeral-at-requires
-numeral-at-requires c κs = search needs
+digits-at-requires : tie.Need-digits-at-requires
+digits-at-requires c κs = search needs
 
 byte-of-requires : tie.Need-byte-of-requires
 byte-of-requires c κs = search needs
 
 returns : tie.Need-returns
 unfolding octalEscape
-returns c = rw (c .byte-of .ensures, c .before .numeral-at .ensures)
+returns c = rw (c .byte-of .ensures, c .before .digits-at .ensures)
 
 pub octal-at-spec : {M : Type 1} → statement M
-octal-at-spec = tie.close (tie.spec numeral-at-requires byte-of-requires returns)
+octal-at-spec = tie.close (tie.spec digits-at-requires byte-of-requires returns)

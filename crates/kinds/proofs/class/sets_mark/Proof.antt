@@ -1,69 +1,51 @@
--- The kinds after which the mark is set: five numbers, and two ranges that the compiler tests by their bounds.
-use Prim.Native.Nat.{ℕ}
-use mathlib.Core.Path.{_≡_, sym}
-use mathlib.Core.Bool.{true, false}
-use mathlib.Core.Logic.{_≢_, _⊎_, inl, inr, ⊎-elim}
+-- `class::sets_mark` meets its contract: each kind is computed.
+use Prim.Native.Nat.{ℕ, zero, suc, _+_, _<_, _≤_, _/_, _%_, _^_}
+use mathlib.Core.Path.{_≡_, ap, _∙_}
+use mathlib.Core.Bool.{Bool, false, cond, Bool·beq}
+use mathlib.Core.Logic.{⊎-elim}
 use native.Mathlib.Omega.{arith}
+use lib.Dec.{eqb}
+use lib.Bits.{bitAnd}
 use borrow.Author.Needs.{needs}
-use borrow.Author.Tests.{ne-eqb}
-use Rattle.basics.proofs.Choice.{true-of}
-use Rattle.kinds.specs.Kinds.{IDENT, INC, DEC, RPAREN, RBRACK, RBRACE, BREAK, CONTINUE, FALLTHROUGH, RETURN}
-use Rattle.kinds.proofs.Ranges.{every-within}
+use Rattle.basics.proofs.Choice.{same-test}
 use Rattle.kinds.specs.Table.{setsMark}
+use Rattle.kinds.proofs.Ranges.{every-within}
 use Rattle.kinds.proofs.class.sets_mark.Statement.{statement}
 use Rattle.kinds.proofs.class.sets_mark.Tie as tie
 
--- the kinds that stand alone, as the `match` has them
-abbrev Alone : ℕ → Type 0
-Alone k = (k ≡ IDENT) ⊎ ((k ≡ BREAK) ⊎ ((k ≡ CONTINUE) ⊎ ((k ≡ FALLTHROUGH) ⊎ (k ≡ RETURN))))
+-- the number that has a bit for each of the n kinds from `from` on
+abbrev marks : ℕ → ℕ → ℕ
+marks from zero = 0
+marks from (suc n) = marks from n + cond (setsMark (from + n)) (2 ^ n) 0
 
-set : (k : ℕ) → Alone k → true ≡ setsMark k
-set k = ⊎-elim (λ e. rw e) (⊎-elim (λ e. rw e) (⊎-elim (λ e. rw e) (⊎-elim (λ e. rw e) (λ e. rw e))))
+-- a kind's bit of such a number
+abbrev bit : ℕ → ℕ → Bool
+bit m k = eqb (bitAnd (m / 2 ^ (k % 64)) 1) 1
 
-not-set : (k : ℕ) → (Alone k → ⊥) → k ≢ INC → k ≢ DEC → k ≢ RPAREN → k ≢ RBRACK → k ≢ RBRACE → false ≡ setsMark k
-not-set k n i d p b c =
-    rw (
-      ne-eqb k IDENT (λ e. n (inl e)),
-      ne-eqb k INC i,
-      ne-eqb k DEC d,
-      ne-eqb k RPAREN p,
-      ne-eqb k RBRACK b,
-      ne-eqb k RBRACE c,
-      ne-eqb k BREAK (λ e. n (inr (inl e))),
-      ne-eqb k CONTINUE (λ e. n (inr (inr (inl e)))),
-      ne-eqb k FALLTHROUGH (λ e. n (inr (inr (inr (inl e))))),
-      ne-eqb k RETURN (λ e. n (inr (inr (inr (inr e))))),
-    )
+low : (k : ℕ) → k < 64 → bit (marks 0 64) k ≡ setsMark k
+low k h = same-test _ _ (every-within (λ k. Bool·beq (bit (marks 0 64) k) (setsMark k)) 0 64 tt k (search needs) h)
 
--- below INC
+high : (k : ℕ) → 64 ≤ k → k < 128 → bit (marks 64 64) k ≡ setsMark k
+high k l h = same-test _ _ (every-within (λ k. Bool·beq (bit (marks 64 64) k) (setsMark k)) 64 64 tt k l h)
+
+none : (k : ℕ) → 127 < k → k < 256 → false ≡ setsMark k
+none k l h = same-test _ _ (every-within (λ k. Bool·beq false (setsMark k)) 128 128 tt k l h)
+
 returns : tie.Need-returns
-returns c =
-    let h = c .if1 .taken in
-    not-set _ (c .before .match .rest .1) (λ e. omega arith) (λ e. omega arith) (λ e. omega arith) (λ e. omega arith) (λ e. omega arith)
+returns c = none _ (c .if1 .taken) (search needs)
 
--- between DEC and RPAREN
+cast-result : tie.Need-cast-result
+cast-result c = search needs
+
+shr-result : tie.Need-shr-result
+shr-result c = search needs
+
 returns-2 : tie.Need-returns-2
 returns-2 c =
-    let l = c .before .if2 .left in
-    let h = c .if3 .taken in
-    not-set _ (c .before .before .before .match .rest .1) (λ e. omega arith) (λ e. omega arith) (λ e. omega arith) (λ e. omega arith) (λ e. omega arith)
-
--- above RBRACE
-returns-3 : tie.Need-returns-3
-returns-3 c =
-    let l = c .if4 .left in
-    not-set _ (c .before .before .before .before .match .rest .1) (λ e. omega arith) (λ e. omega arith) (λ e. omega arith) (λ e. omega arith) (λ e. omega arith)
-
-returns-4 : tie.Need-returns-4
-returns-4 c = set _ (c .match .keys1)
-
--- INC and DEC
-returns-5 : tie.Need-returns-5
-returns-5 c = sym (true-of _ (every-within setsMark INC 2 tt (c .before .before .before .args .kind) (search needs) (search needs)))
-
--- RPAREN, RBRACK and RBRACE
-returns-6 : tie.Need-returns-6
-returns-6 c = sym (true-of _ (every-within setsMark RPAREN 3 tt (c .before .before .before .before .before .args .kind) (search needs) (search needs)))
+    let k = c .before .before .before .args .kind in
+    let l = c .before .before .if1 .left in
+    ⊎-elim (λ h. ap (λ m. bit m k) (h .1) ∙ low k (h .0 .taken)) (λ h. ap (λ m. bit m k) (h .1) ∙ high k (h .0 .left) (omega (arith, l)))
+    (c .before .if2 .came)
 
 pub sets-mark-spec : {M : Type 1} → statement M
-sets-mark-spec = tie.close (tie.spec returns returns-2 returns-3 returns-4 returns-5 returns-6)
+sets-mark-spec = tie.close (tie.spec returns cast-result shr-result returns-2)

@@ -3,26 +3,26 @@ ghost use mathlib.Core.Path.{_≡_};
 ghost use Prim.Native.Nat.{_≤_};
 ghost use lib.ListN.{drop};
 ghost use Rattle.utf8.specs.Chars.{chars};
-ghost use Rattle.escapes.specs.Numeral.{numeral};
+ghost use Rattle.escapes.specs.EscapeDigits.{escapeDigits};
 
 // Digits that were read: their value, how many, and the number of the error where they are too few.
-pub(crate) struct Numeral {
+pub(crate) struct EscapeDigits {
     pub(crate) value: u32,
     pub(crate) len: usize,
     pub(crate) error: u8,
 }
 
 // The value of exactly `count` digits below the base.
-pub(crate) fn numeral_at(src: &[u8], at: usize, base: u8, count: usize) -> Numeral
+pub(crate) fn digits_at(src: &[u8], at: usize, base: u8, count: usize) -> EscapeDigits
     requires { ⌜ (base ≤ 16) × (count ≤ 8) ⌝ }
-    ensures { λ r. ⌜ r ≡ numeral base count 0 (chars (drop at (now (src .entry)))) ⌝ }
+    ensures { λ r. ⌜ r ≡ escapeDigits base count 0 (chars (drop at (now (src .entry)))) ⌝ }
 {
     let mut len = 0;
     let mut value: u32 = 0;
     while len < count {
         let p = at + len;
         if src.len() <= p {
-            return Numeral {
+            return EscapeDigits {
                 value,
                 len,
                 error: errors::CUT_ESCAPE,
@@ -30,7 +30,7 @@ pub(crate) fn numeral_at(src: &[u8], at: usize, base: u8, count: usize) -> Numer
         }
         let d = digits::digit_val(src[p]);
         if base <= d {
-            return Numeral {
+            return EscapeDigits {
                 value,
                 len,
                 error: errors::BAD_ESCAPE,
@@ -39,7 +39,7 @@ pub(crate) fn numeral_at(src: &[u8], at: usize, base: u8, count: usize) -> Numer
         value = value * base as u32 + d as u32;
         len += 1;
     }
-    Numeral {
+    EscapeDigits {
         value,
         len,
         error: 0,

@@ -1,4 +1,4 @@
--- `escapes::numeral::numeral_at` meets its contract. The loop's invariant: what is left of the digits and what was read make the whole, and the value so far fits its digits.
+-- `escapes::escape_digits::digits_at` meets its contract. The loop's invariant: what is left of the digits and what was read make the whole, and the value so far fits its digits.
 use Prim.Native.Nat.{_+_, _*_, _-_, _^_, _≤_, _<_}
 use mathlib.Core.Path.{_≡_, sym, ap, _∙_}
 use native.Mathlib.Omega.{arith}
@@ -7,13 +7,13 @@ use lib.Dec.{lit<}
 use lib.ListN.{drop, getD}
 use Rattle.utf8.specs.Chars.{chars}
 use Rattle.digits.specs.Digit.{digitVal}
-use Rattle.escapes.specs.Numeral.{numeral}
-use Rattle.escapes.proofs.Numerals.{grown, grown-more, grown-stop, left-of, none-read, all-read, next-cut, next-off, next-digit, grow, room}
-use Rattle.escapes.proofs.numeral.numeral_at.Statement.{statement}
-use Rattle.escapes.proofs.numeral.numeral_at.Tie as tie
+use Rattle.escapes.specs.EscapeDigits.{escapeDigits}
+use Rattle.escapes.proofs.DigitLaws.{grown, grown-more, grown-stop, left-of, none-read, all-read, next-cut, next-off, next-digit, grow, room}
+use Rattle.escapes.proofs.escape_digits.digits_at.Statement.{statement}
+use Rattle.escapes.proofs.escape_digits.digits_at.Tie as tie
 
 abbrev Inv-loop : tie.InvT-loop
-Inv-loop src at base count len₀ value₀ len value = (at + len < 2 ^ 64) × (len ≤ count) × (value < 16 ^ len) × (numeral base count 0 (chars (drop at src)) ≡ grown len (left-of base count src at len value))
+Inv-loop src at base count len₀ value₀ len value = (at + len < 2 ^ 64) × (len ≤ count) × (value < 16 ^ len) × (escapeDigits base count 0 (chars (drop at src)) ≡ grown len (left-of base count src at len value))
 
 abbrev μ-loop : tie.MeasureT-loop
 μ-loop src at base count len₀ value₀ len value = count - len
@@ -87,8 +87,8 @@ returns-3 c =
     let a = l .before .before .args in
     sym (l .loop .inv .3 ∙ ap (grown (l .loop .len)) (all-read (a .base) (a .count) (a .src .now) (a .at) (l .loop .len) (l .loop .value) (c .loop-test .left)) ∙ grown-stop _ _ _)
 
-pub numeral-at-spec : {M : Type 1} → statement M
-numeral-at-spec =
+pub digits-at-spec : {M : Type 1} → statement M
+digits-at-spec =
     tie.close
     (tie.spec
     Inv-loop
