@@ -2,7 +2,7 @@
 use Prim.Native.Nat.{ℕ, _+_, _≤_, _<_}
 use Prim.Native.Char.{code}
 use mathlib.Core.Path.{_≡_, refl, sym, ap, subst, _∙_}
-use mathlib.Core.Bool.{Bool, true, false, cond, not, _||_, _&&_, true≢false, false≢true}
+use mathlib.Core.Bool.{Bool, true, false, not, _||_, _&&_, true≢false, false≢true}
 use mathlib.Core.List.{List, [], _∷_}
 use mathlib.Core.Logic.{_≢_, ⊎-elim}
 use native.Mathlib.Omega.{arith}
@@ -80,10 +80,6 @@ digit-first = only INT isDecimal tt
 pub quote-first : (b : ℕ) → b < 256 → firstKind b ≡ STRING → b ≡ 34
 unfolding firstKind rowsFrom operators isLetter
 quote-first b h e = eqb-true b 34 (only STRING (λ x. eqb x 34) tt b h e)
-
-pub first-small : (b : ℕ) → b < 256 → firstKind b < 128
-unfolding firstKind rowsFrom operators isLetter
-first-small b h = ltb-true (firstKind b) 128 (true-of _ (every-below (λ x. ltb (firstKind x) 128) 256 tt b h))
 
 -- a digit tells a number
 pub first-digit : (b : ℕ) → isDecimal b ≡ true → firstKind b ≡ INT

@@ -1,5 +1,5 @@
 -- `simple::delimiter` meets its contract: a byte that tells a delimiter, for a point with a letter behind it.
-use Prim.Native.Nat.{ℕ, _+_, _<_}
+use Prim.Native.Nat.{_+_, _<_}
 use mathlib.Core.Bool.{false, true}
 use mathlib.Core.Logic.{⊎-elim}
 use mathlib.Core.Path.{_≡_, refl, sym, _∙_}
@@ -13,7 +13,7 @@ use Rattle.words.specs.Word.{isLetter}
 use Rattle.lexer.specs.declared.lexed.Text.the-variants.{Empty}
 use Rattle.kinds.specs.Table.{setsMark}
 use Rattle.batch.specs.Simple.{firstKind}
-use Rattle.batch.proofs.SimpleTokens.{letter-first, first-small, first-known, delimiter-read}
+use Rattle.batch.proofs.SimpleTokens.{letter-first, first-known, delimiter-read}
 use Rattle.batch.proofs.Giving.{gives-none, gives-plain}
 use Rattle.batch.proofs.simple.delimiter.Statement.{statement}
 use Rattle.batch.proofs.simple.delimiter.Tie as tie
