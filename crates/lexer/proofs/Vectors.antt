@@ -24,7 +24,7 @@ use Rattle.spans.specs.Span.{toStop, toStarSlash}
 use Rattle.spans.specs.Body.{clean}
 use Rattle.spans.specs.Line.{blankToEnd, endsLine}
 use Rattle.lexer.specs.declared.lexed.Text.{Text}
-use Rattle.lexer.specs.declared.lexed.Text.the-variants.{Number, WithoutCr}
+use Rattle.lexer.specs.declared.lexed.Text.the-variants.{Number, WithoutCr, WithLf}
 use Rattle.lexer.specs.declared.lexed.Value.the-variants.{Raw}
 use Rattle.lexer.specs.Lexeme.{Lexeme, shown, bare, insertedSemicolon, raise}
 use Rattle.lexer.specs.Words.{wordLexeme, lexNumber}
