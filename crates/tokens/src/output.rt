@@ -33,6 +33,46 @@ pub(crate) fn bytes(out: &mut Buffer, waiting: usize, s: &[u8]) -> usize {
     end
 }
 
+fn visible_byte(out: &mut Buffer, waiting: usize, b: u8) -> usize {
+    if b == b'\n' {
+        return bytes(out, waiting, b"\\n");
+    }
+    if b == b'\r' {
+        return bytes(out, waiting, b"\\r");
+    }
+    if b < b' ' && b != b'\t' || b == 127 {
+        let end = bytes(out, waiting, b"\\x");
+        return hex_byte(out, end, b);
+    }
+    byte(out, waiting, b)
+}
+
+// Adds bytes so that each can be seen and none moves the terminal's cursor: a line feed is `\n`, a CR `\r`, another control
+// character but the tab its number. A line feed at the very end is left out.
+pub(crate) fn visible(out: &mut Buffer, waiting: usize, s: &[u8]) -> usize {
+    let mut end = waiting;
+    for k in 0..s.len() {
+        if s[k] != b'\n' || k + 1 < s.len() {
+            end = visible_byte(out, end, s[k]);
+        }
+    }
+    end
+}
+
+pub(crate) fn spaces(out: &mut Buffer, waiting: usize, n: usize) -> usize {
+    let mut end = waiting;
+    for k in 0..n {
+        end = byte(out, end, b' ');
+    }
+    end
+}
+
+// How many digits a number has.
+pub(crate) fn digits(n: usize) -> usize {
+    let mut digits = [0u8; 20];
+    io::decimal(n as u64, &mut digits)
+}
+
 pub(crate) fn decimal(out: &mut Buffer, waiting: usize, n: usize) -> usize {
     let mut digits = [0u8; 20];
     let k = io::decimal(n as u64, &mut digits);

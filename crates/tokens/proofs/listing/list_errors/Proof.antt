@@ -5,10 +5,10 @@ use Rattle.tokens.proofs.listing.list_errors.Statement.{statement}
 use Rattle.tokens.proofs.listing.list_errors.Tie as tie
 
 abbrev Inv-loop : tie.InvT-loop
-Inv-loop state list out₀ waiting at₀ k₀ k-end out at k = k ≤ k-end
+Inv-loop names src state list out₀ waiting at₀ k₀ k-end out at k = k ≤ k-end
 
 abbrev μ-loop : tie.MeasureT-loop
-μ-loop state list out₀ waiting at₀ k₀ k-end out at k = k-end - k
+μ-loop names src state list out₀ waiting at₀ k₀ k-end out at k = k-end - k
 
 loop-holds : tie.Need-loop-holds Inv-loop μ-loop
 loop-holds c = search needs
@@ -19,8 +19,8 @@ error-requires c κs = search needs
 enum-known-got : tie.Need-enum-known-got Inv-loop μ-loop
 enum-known-got c = search needs
 
-error-requires-2 : tie.Need-error-requires-2 Inv-loop μ-loop
-error-requires-2 c κs = search needs
+show-error-requires : tie.Need-show-error-requires Inv-loop μ-loop
+show-error-requires c κs = search needs
 
 enum-told : tie.Need-enum-told Inv-loop μ-loop
 enum-told c = search needs
@@ -64,7 +64,7 @@ list-errors-spec =
     loop-holds
     error-requires
     enum-known-got
-    error-requires-2
+    show-error-requires
     enum-told
     over-requires
     returns

@@ -7,11 +7,11 @@ use Rattle.tokens.proofs.listing.list_tokens.Statement.{statement}
 use Rattle.tokens.proofs.listing.list_tokens.Tie as tie
 
 abbrev Inv-loop : tie.InvT-loop
-Inv-loop src table₀ list₀ area₀ out₀ progress₀ k₀ table list area out progress k =
+Inv-loop names src table₀ list₀ area₀ out₀ progress₀ k₀ table list area out progress k =
     (k ≤ 131073) × (length table ≡ length table₀) × (length list ≡ length list₀) × (length area ≡ length area₀)
 
 abbrev μ-loop : tie.MeasureT-loop
-μ-loop src table₀ list₀ area₀ out₀ progress₀ k₀ table list area out progress k = 131073 - k
+μ-loop names src table₀ list₀ area₀ out₀ progress₀ k₀ table list area out progress k = 131073 - k
 
 loop-holds : tie.Need-loop-holds Inv-loop μ-loop
 loop-holds c = search needs

@@ -1,0 +1,58 @@
+-- `tokens::marked::text_of` meets its contract: the loop ends, and each index is below the count.
+use Prim.Native.Nat.{_≤_, _-_}
+use borrow.Author.Needs.{needs}
+use Rattle.tokens.proofs.marked.text_of.Statement.{statement}
+use Rattle.tokens.proofs.marked.text_of.Tie as tie
+
+abbrev Inv-loop : tie.InvT-loop
+Inv-loop out₀ waiting src start end₀ k₀ k-end out end k = k₀ ≤ k
+
+abbrev μ-loop : tie.MeasureT-loop
+μ-loop out₀ waiting src start end₀ k₀ k-end out end k = k-end - k
+
+loop-holds : tie.Need-loop-holds Inv-loop μ-loop
+loop-holds c = search needs
+
+shared-slice-read-if1 : tie.Need-shared-slice-read-if1 Inv-loop μ-loop
+shared-slice-read-if1 c = search needs
+
+returns : tie.Need-returns Inv-loop μ-loop
+returns c = search needs
+
+shared-slice-read-plain : tie.Need-shared-slice-read-plain Inv-loop μ-loop
+shared-slice-read-plain c = search needs
+
+plain-requires : tie.Need-plain-requires Inv-loop μ-loop
+plain-requires c κs = search needs
+
+byte-requires : tie.Need-byte-requires Inv-loop μ-loop
+byte-requires c κs = search needs
+
+add-k : tie.Need-add-k Inv-loop μ-loop
+add-k c = search needs
+
+loop-less : tie.Need-loop-less Inv-loop μ-loop
+loop-less c = search needs
+
+loop-again : tie.Need-loop-again Inv-loop μ-loop
+loop-again c = search needs
+
+returns-2 : tie.Need-returns-2 Inv-loop μ-loop
+returns-2 c = search needs
+
+pub text-of-spec : {M : Type 1} → statement M
+text-of-spec =
+    tie.close
+    (tie.spec
+    Inv-loop
+    μ-loop
+    loop-holds
+    shared-slice-read-if1
+    returns
+    shared-slice-read-plain
+    plain-requires
+    byte-requires
+    add-k
+    loop-less
+    loop-again
+    returns-2)

@@ -1,0 +1,45 @@
+// Errors and refusals in words. Each function answers how many bytes of output wait then.
+use crate::output;
+use crate::output::Buffer;
+
+// A number of one byte; 0, which is no error, for one that needs more.
+fn small(number: usize) -> u8 {
+    if number < 256 {
+        return number as u8;
+    }
+    0
+}
+
+pub(crate) fn error(out: &mut Buffer, waiting: usize, number: usize) -> usize {
+    match small(number) {
+        errors::BAD_BINARY => output::bytes(out, waiting, b"bad binary number"),
+        errors::BAD_OCTAL => output::bytes(out, waiting, b"bad octal number"),
+        errors::BAD_HEXADECIMAL => output::bytes(out, waiting, b"bad hexadecimal number"),
+        errors::MISPLACED_UNDERSCORE => output::bytes(out, waiting, b"misplaced '_' in a number"),
+        errors::BAD_EXPONENT => output::bytes(out, waiting, b"exponent has no digits"),
+        errors::OPEN_RAW_STRING => output::bytes(out, waiting, b"raw string is not closed"),
+        errors::OPEN_COMMENT => output::bytes(out, waiting, b"comment is not closed"),
+        errors::OPEN_QUOTE => output::bytes(out, waiting, b"string or character is not closed"),
+        errors::UNKNOWN_ESCAPE => output::bytes(out, waiting, b"unknown escape"),
+        errors::CUT_ESCAPE => output::bytes(out, waiting, b"text ends inside an escape"),
+        errors::BAD_ESCAPE => output::bytes(out, waiting, b"bad character in an escape"),
+        errors::NO_CODE_POINT => output::bytes(out, waiting, b"escape is not a Unicode code point"),
+        errors::NOT_ONE_CHARACTER => output::bytes(
+            out,
+            waiting,
+            b"character literal must hold exactly one character",
+        ),
+        _ => output::bytes(out, waiting, b"unknown error"),
+    }
+}
+
+pub(crate) fn refusal(out: &mut Buffer, waiting: usize, number: u8) -> usize {
+    match number {
+        refusal::NOT_UTF8 => output::bytes(out, waiting, b"the text is not UTF-8"),
+        refusal::TOO_LONG => output::bytes(out, waiting, b"the text is too long"),
+        refusal::TABLE_FULL => output::bytes(out, waiting, b"the text has too many lines"),
+        refusal::LIST_FULL => output::bytes(out, waiting, b"the text has too many errors"),
+        refusal::AREA_FULL => output::bytes(out, waiting, b"a token's text and value are too long"),
+        _ => output::bytes(out, waiting, b"the scanner refused the text"),
+    }
+}
