@@ -36,10 +36,14 @@ pub(crate) fn error(out: &mut Buffer, waiting: usize, number: usize) -> usize {
 pub(crate) fn refusal(out: &mut Buffer, waiting: usize, number: u8) -> usize {
     match number {
         refusal::NOT_UTF8 => output::bytes(out, waiting, b"the text is not UTF-8"),
-        refusal::TOO_LONG => output::bytes(out, waiting, b"the text is too long"),
-        refusal::TABLE_FULL => output::bytes(out, waiting, b"the text has too many lines"),
-        refusal::LIST_FULL => output::bytes(out, waiting, b"the text has too many errors"),
-        refusal::AREA_FULL => output::bytes(out, waiting, b"a token's text and value are too long"),
+        refusal::TOO_LONG => output::bytes(out, waiting, b"the text has more than 65,536 bytes"),
+        refusal::TABLE_FULL => output::bytes(out, waiting, b"the text has more than 16,384 lines"),
+        refusal::LIST_FULL => output::bytes(out, waiting, b"the text has more than 1,024 errors"),
+        refusal::AREA_FULL => output::bytes(
+            out,
+            waiting,
+            b"a token's text and value have more than 65,536 bytes",
+        ),
         _ => output::bytes(out, waiting, b"the scanner refused the text"),
     }
 }
