@@ -1,6 +1,7 @@
-// Times go/scanner, with comments, for bench/scan.rs. For each line on standard input, the number of a file among the
-// arguments, it makes a few passes over that file, from opening to EOF, and answers with the number of tokens, EOF among
-// them, and the nanoseconds that its thread ran in the quickest pass.
+// Times go/scanner, with comments, for bench/scan.rs. For each line on standard input, the number
+// of a file among the arguments, it makes a few passes over that file, from opening to EOF, and
+// answers with the number of tokens, EOF among them, and the nanoseconds that its thread ran in the
+// quickest pass.
 package main
 
 import (

@@ -1,4 +1,5 @@
-// Runs our scanner beside the original, and tells by which entry of docs/DIFFERENCES.md each difference is explained.
+// Runs our scanner beside the original, and tells which entry of docs/DIFFERENCES.md explains each
+// difference.
 //
 // compare COUNT [SEED]   the recorded inputs, and COUNT that are made
 // compare record         prints oracle/ours.txt
@@ -101,8 +102,8 @@ impl Comparison {
         Err(format!("expected: refusal {number}, place {place}\n  ours: {:?}, {}", self.ours.end, shown(&self.ours)))
     }
 
-    // Ours at another base (1, the number of bytes or the largest), called directly and in small buffers, beside ours at
-    // base 0. A base above the largest is refused.
+    // Ours at another base (1, the number of bytes or the largest), called directly and in small
+    // buffers, beside ours at base 0. A base above the largest is refused.
     fn compare_bases(&mut self, source: &[u8], size: usize, number: usize) -> Result<(), String> {
         let room = MAX_POSITION - size;
         let base = [1, source.len(), room][number % 3].min(room);

@@ -1,8 +1,9 @@
-//! The entries of docs/DIFFERENCES.md: what ours must answer where the original answers otherwise.
+//! The entries of docs/DIFFERENCES.md: what ours must answer where the original answers
+//! differently.
 //!
-//! Where the original panics or reads a text otherwise than ours is to, it is asked again about a text with a stand-in
-//! of as many characters at that place, which it reads as ours is to read the text itself. In its answer the
-//! stand-ins are then turned back.
+//! Where the original panics, or reads a text in a way that ours must not, it is asked again about
+//! a text with a stand-in at that place. The stand-in has as many characters, and the original
+//! reads it as ours must read the text itself. In its answer the stand-ins are then turned back.
 
 use crate::listing::{End, Listing, Row, CHAR, COMMENT, IDENT, ILLEGAL, STRING};
 use crate::original;
@@ -66,9 +67,10 @@ struct Asked {
     reasons: Reasons,
 }
 
-// The stand-ins: a character that is ILLEGAL in both, a raw string as long as an empty character literal, a blank, and
-// a letter that is not r. A backquote is no escape, so what stands before it ends there as before `'`. A run after a
-// comment holds no other letter than r, so that no keyword can arise.
+// The stand-ins: a character that is ILLEGAL in both, a raw string as long as an empty character
+// literal, a blank, and a letter that is not r. A backquote is no escape, so what comes before it
+// ends there as before `'`. A run after a comment holds no other letter than r, so that no keyword
+// can arise.
 const ODD: char = '#';
 const QUOTE: char = '`';
 const BLANK: char = ' ';
@@ -94,7 +96,8 @@ impl Asked {
         replaced
     }
 
-    // Puts a stand-in for the empty character literal at which the original panicked: where ours has its next token.
+    // Puts a stand-in for the empty character literal at which the original panicked: where ours
+    // has its next token.
     fn replace_empty(&mut self, ours: &Listing) -> bool {
         let read = self.theirs.rows.iter().filter(|row| !row.inserted).count();
         let Some(next) = ours.rows.iter().filter(|row| !row.inserted).nth(read) else { return false };
@@ -107,7 +110,8 @@ impl Asked {
         true
     }
 
-    // Puts a stand-in for a character in the runs of it and blanks that reach from a comment to the end of its line.
+    // Puts a stand-in for a character, in every run of that character and blanks that reaches from
+    // a comment to the end of its line.
     fn replace_after_comments(&mut self, odd: char, stand_in: char, entry: Entry) {
         let mut replaced = false;
         for row in self.theirs.rows.iter().filter(|row| is_general_comment(&self.theirs, row)) {
@@ -127,7 +131,7 @@ impl Asked {
         }
     }
 
-    // Asks again until nothing stands in the way.
+    // Asks again until there is nothing left to replace.
     fn replace_all(&mut self, ours: &Listing) -> Result<(), String> {
         loop {
             let panicked = self.theirs.end == End::Panic;
@@ -199,7 +203,8 @@ impl Asked {
     }
 }
 
-// ILLEGAL with error 13 behind it. A character literal holds no line feed, so the line is that of its start.
+// ILLEGAL with error 13 after it. A character literal holds no line feed, so the line is that of
+// its start.
 fn put_illegal(row: Row, text: &[u8], out: &mut Listing) {
     let length = String::from_utf8_lossy(text).chars().count();
     out.push(Row { kind: ILLEGAL, code: 0, ..row }, text, b"");
@@ -214,7 +219,8 @@ fn is_general_comment(theirs: &Listing, row: &Row) -> bool {
     row.kind == COMMENT && theirs.text(row).starts_with(b"/*")
 }
 
-// Where from the end of a comment to the end of its line nothing stands but blanks and an odd character.
+// The range from the end of a comment to the end of its line, if only blanks and the odd character
+// are in it.
 fn run_behind(source: &[char], comment: usize, odd: char) -> Option<std::ops::Range<usize>> {
     let start = (comment + 4..=source.len()).find(|end| source[end - 2..*end] == ['*', '/'])?;
     let length = source[start..].iter().take_while(|c| **c != '\n').count();
@@ -222,7 +228,7 @@ fn run_behind(source: &[char], comment: usize, odd: char) -> Option<std::ops::Ra
     source[run.clone()].iter().all(|c| matches!(c, ' ' | '\t') || *c == odd).then_some(run)
 }
 
-/// What stands between the quotes of a literal, read by the specification.
+/// What is between the quotes of a literal, read as the specification says.
 #[derive(Default)]
 struct Body {
     characters: usize,
@@ -301,8 +307,8 @@ pub struct Expected {
     pub reasons: Reasons,
 }
 
-/// What ours must answer beside the original's listing, at base 0; nothing if that listing itself. Ours is asked only
-/// for the place of an empty character literal.
+/// What ours must answer at base 0, given the original's listing; nothing if it must be that
+/// listing itself. Ours is asked only for the place of an empty character literal.
 pub fn expected(source: &str, size: usize, theirs: &Listing, ours: &Listing) -> Result<Option<Expected>, String> {
     if theirs.end == End::Whole && !theirs.rows.iter().any(|row| concerns(theirs, row)) {
         return Ok(None);

@@ -1,5 +1,5 @@
-//! Runs our scanner by the functions of the library themselves, in buffers that are too small at first, and holds what
-//! a token shows to the bytes that were read.
+//! Runs our scanner by calling the library's functions directly, in buffers that are too small at
+//! first, and compares what a token shows with the bytes that were read.
 
 #[path = "../bindings/rust/src/ffi.rs"]
 #[allow(dead_code)]
@@ -32,7 +32,7 @@ struct Run<'a> {
     area: Vec<u8>,
 }
 
-/// A text or a value: where it stands, and its bytes.
+/// A text or a value: which buffer has it, and from where to where.
 struct Part {
     in_area: bool,
     start: usize,
@@ -148,8 +148,9 @@ impl Run<'_> {
         buffer.get(part.start..part.end).ok_or("a part outside its buffer".into())
     }
 
-    // A part is shown from the source where it equals what was read, or what stands between the quotes. Otherwise it
-    // stands in the area: the text at its first byte, the value behind it; the bytes behind both are unwritten.
+    // A part is shown from the source where it equals what was read, or what is between the quotes.
+    // Otherwise it is in the area: the text from its first byte, the value after it. The bytes
+    // after both are unwritten.
     fn check_parts(&self, start: usize, read: &[u8], failed: bool) -> Result<(), String> {
         let mut written = 0;
         if !self.bytes(TEXT)?.is_empty() {

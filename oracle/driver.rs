@@ -1,9 +1,11 @@
-// Runs the original scanner over many inputs and prints the listing of each, then a line with a dot.
+// Runs the original scanner over many inputs and prints the listing of each, then a line with a
+// dot.
 //
 // driver [record | replay] [starts] [base=N]
 //
 // Standard input holds frames: u32 little-endian byte length, u32 little-endian size, the bytes.
-// record prints a line `I size bytes` before each listing; replay reads such lines in place of frames.
+// record prints a line `I size bytes` before each listing; replay reads such lines in place of
+// frames.
 // starts adds what line_start answers for each line; base=N is for a base other than 0.
 mod listing;
 mod original;

@@ -1,4 +1,5 @@
-// Writes inputs for the scanner: frames of u32 little-endian byte length, u32 little-endian size, the bytes.
+// Writes inputs for the scanner: frames of u32 little-endian byte length, u32 little-endian size,
+// the bytes.
 //
 // generate MODE COUNT SEED
 //

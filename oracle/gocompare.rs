@@ -1,6 +1,7 @@
-//! Compares the scanner, called through the Rust crate, with go/scanner: kinds, offsets, texts, values and inserted
-//! semicolons. Standard input is the stream of oracle/gotokens.go. Every difference is put down to a reason that
-//! docs/DIFFERENCES.md has; else the smallest source with one is printed with its place, and the status is 1.
+//! Compares the scanner, called through the Rust crate, with go/scanner: kinds, offsets, texts,
+//! values and inserted semicolons. Standard input is the stream of oracle/gotokens.go. Every
+//! difference must have a reason that docs/DIFFERENCES.md gives. If one has none, the smallest
+//! source with such a difference is printed with its place, and the status is 1.
 
 use cifgwezam::{Kind, Refusal, Scanner};
 use std::collections::BTreeMap;
@@ -67,7 +68,7 @@ impl<'a> Stream<'a> {
         self.take(n)
     }
 
-    /// The next token; none behind EOF.
+    /// The next token; none after EOF.
     fn token(&mut self) -> Option<Theirs> {
         let number = self.take(1)[0];
         if number == 255 {
@@ -103,7 +104,7 @@ fn as_ours(kind: Kind, text: &[u8]) -> Vec<u8> {
     }
 }
 
-/// No CR, and an LF behind a comment to the end of a line.
+/// No CR, and an LF after a comment to the end of a line.
 fn comment(text: &[u8]) -> Vec<u8> {
     let end: &[u8] = if text.starts_with(b"//") { b"\n" } else { b"" };
     text.iter().chain(end).copied().filter(|&byte| byte != b'\r').collect()
@@ -170,11 +171,11 @@ const ZERO_UNDERSCORE: &str = "a 0 before `_` starts a decimal, where go/scanner
 const LONG: &str = "longer than 1,048,576 bytes";
 const UTF8: &str = "not UTF-8";
 
-/// How a comparison goes on behind a difference.
+/// How a comparison goes on after a difference.
 enum Way {
-    /// Both behind Go's token.
+    /// Both after Go's token.
     On(&'static str),
-    /// Ours behind one token.
+    /// Ours after one token.
     Skip(&'static str),
     Stop(&'static str),
     Unexplained,
@@ -217,7 +218,8 @@ fn number_reason(text: &[u8]) -> Way {
 struct Found {
     /// For each reason to go on, the sources and the places.
     passed: BTreeMap<&'static str, (usize, usize)>,
-    /// For each reason to stop or to leave a source aside, the sources and the tokens that were not compared.
+    /// For each reason to stop or to leave a source aside, the sources and the tokens that were not
+    /// compared.
     stopped: BTreeMap<&'static str, (usize, usize)>,
     tokens: usize,
     inserted: usize,
@@ -239,8 +241,9 @@ impl Found {
         self.inserted += one.inserted;
     }
 
-    /// Holds errors against each other. Where Go has one, ours has one, too (it is not silent), or there is a reason for
-    /// silence; where Go has none, so has ours, but for numbers that Go reads and ours does not.
+    /// Compares the errors. Where Go has one, ours has one too, or there is a reason why it is
+    /// silent. Where Go has none, ours has none, except for numbers that Go reads and ours does
+    /// not.
     fn judged(mut self, silent: bool, errors: usize, reason: Option<&'static str>) -> Option<Found> {
         if let (true, Some(count)) = (silent, self.stopped.get(BAD).copied()) {
             self.stopped.remove(BAD);
@@ -256,7 +259,7 @@ impl Found {
 struct Pair<'a> {
     ours: &'a [Lexeme],
     theirs: &'a [Theirs],
-    /// Go gave a semicolon that ours gives behind one more comment.
+    /// Go gave a semicolon that ours gives after one more comment.
     held: bool,
     /// Only comments came since a `~`, which keeps the mark of ours and clears Go's.
     tilde: bool,
@@ -264,7 +267,8 @@ struct Pair<'a> {
 }
 
 impl Pair<'_> {
-    /// Compares up to the end or to a reason to stop; else the byte offset of an unexplained difference.
+    /// Compares up to the end or to a reason to stop; else the byte offset of an unexplained
+    /// difference.
     fn run(&mut self) -> Result<(), usize> {
         while let Some((next, after)) = self.theirs.split_first() {
             let Some((own, rest)) = self.ours.split_first() else {
@@ -295,8 +299,8 @@ impl Pair<'_> {
         }
     }
 
-    /// Whether ours is to have a semicolon here that Go does not have here: one that was held, before the line's last
-    /// comment, or one behind a `~`.
+    /// Whether ours is to have a semicolon here that Go does not have here: one that was held,
+    /// before the line's last comment, or one after a `~`.
     fn is_due(&self, own: &Lexeme, next: &Theirs) -> bool {
         if self.held {
             return next.lexeme.kind == Kind::Comment && own.offset == next.offset();
@@ -313,7 +317,8 @@ impl Pair<'_> {
         }
     }
 
-    /// Goes on behind a difference, if there is a reason for it; true where the comparison is to stop.
+    /// Goes on after a difference, if there is a reason for it; true where the comparison is to
+    /// stop.
     fn step(&mut self, own: &Lexeme, next: &Theirs) -> Result<bool, usize> {
         match reason(own, next) {
             Way::On(reason) => {
@@ -373,7 +378,8 @@ fn source(source: &[u8], theirs: &[Theirs]) -> Result<Found, usize> {
     }
 }
 
-/// All sources of the stream: their number, what was found, and the unexplained ones by length, name and offset.
+/// All sources of the stream: their number, what was found, and the unexplained ones by length,
+/// name and offset.
 fn sources(stream: &mut Stream) -> (usize, Found, Vec<(usize, String, usize)>) {
     let (mut all, mut count) = (Found::default(), 0);
     let mut unexplained = Vec::new();

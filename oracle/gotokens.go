@@ -1,12 +1,13 @@
-// Writes what go/scanner, with comments, reads in every .go file under a folder, or in every input of oracle/generate
-// on standard input, for oracle/gocompare.rs.
+// Writes what go/scanner, with comments, reads in every .go file under a folder, or in every input
+// of target/oracle/generate on standard input, for oracle/gocompare.rs.
 //
 // gotokens [ROOT]
 //
-// The stream: for each token of go/token its name (a length and bytes), a length 0; then for each file its path
-// and its bytes, each with its length; its tokens; the byte 255. A token is its number (one byte), 1 where an
-// error was reported by its scan or before it (one byte), its byte offset, its text with its length, and for a
-// STRING the value with its length, for a CHAR the code point. Numbers have four bytes, the lowest first.
+// The stream: for each token of go/token its name (a length and bytes), a length 0; then for each
+// file its path and its bytes, each with its length; its tokens; the byte 255. A token is its
+// number (one byte), 1 where an error was reported by its scan or before it (one byte), its byte
+// offset, its text with its length, and for a STRING the value with its length, for a CHAR the code
+// point. Numbers have four bytes, the lowest first.
 package main
 
 import (
@@ -104,7 +105,8 @@ func (s stream) tree(root string) error {
 	})
 }
 
-// The inputs of oracle/generate: a length, a size, which is not asked for here, and the bytes.
+// The inputs of target/oracle/generate: a length, a size, which is not asked for here, and the
+// bytes.
 func (s stream) frames(input io.Reader) error {
 	for n := 1; ; n++ {
 		var head [2]uint32

@@ -1,8 +1,10 @@
 //! Makes inputs for the scanner, a text and a size each; the same ones each time.
 //!
-//! exhaustive  every short text over small alphabets; below the whole number, COUNT of them drawn in order
-//! followed    the same texts, each with blanks behind it, so that nothing ends at once
-//! edges       every fragment alone, after a set mark, before a line feed and before the end; drawn likewise
+//! exhaustive  every short text over small alphabets; if COUNT is below their number, COUNT of
+//!             them, drawn in order
+//! followed    the same texts, each with blanks after it, so that nothing ends at once
+//! edges       every fragment alone, after a set mark, before a line feed and before the end;
+//!             drawn likewise
 //! grown       COUNT random rows of fragments, at most 200 bytes each
 //! long        COUNT random rows of some hundred fragments, their quotes and comments closed
 //! damaged     COUNT grown texts with bytes deleted, doubled, swapped, replaced or cut

@@ -9,7 +9,7 @@ pub const IDENT: u8 = 4;
 pub const CHAR: u8 = 8;
 pub const STRING: u8 = 9;
 
-/// A token. Its text and value stand in the listing's bytes.
+/// A token. Its text and value are in the listing's bytes.
 #[derive(Clone, Copy, Debug, Default, PartialEq, Eq)]
 pub struct Row {
     pub offset: usize,

@@ -65,13 +65,14 @@ fn error_number(e: &Error) -> usize {
     }
 }
 
-// Our own faults are told and end the program; the original's panics are caught and silent.
+// Our own faults are printed and end the program. The original's panics are caught and silent.
 fn fail(what: &str) -> ! {
     eprintln!("oracle: {what}");
     std::process::exit(1)
 }
 
-/// From now on a panic in the original's files is silent; any other is told and ends the program.
+/// From now on a panic in the original's files is silent; any other is printed and ends the
+/// program.
 pub fn catch_panics() {
     panic::set_hook(Box::new(|info| {
         let theirs = info.location().is_some_and(|place| place.file().contains("target/oracle/original/"));
@@ -86,8 +87,8 @@ fn caught<T>(call: impl FnOnce() -> T) -> Option<T> {
     panic::catch_unwind(AssertUnwindSafe(call)).ok()
 }
 
-// The line and column are asked right after the token's scan. At the end of the run they would be the same:
-// a line start that comes later stands above the token's offset.
+// The line and column are asked right after the token's scan. At the end of the run they would be
+// the same: a line start that comes later is above the token's offset.
 fn put_token(out: &mut Listing, file: &File, t: &Token, pos: Pos) {
     let at = file.position(pos);
     let mut row = Row { offset: at.offset, line: at.line, column: at.column, kind: kind(t), ..Row::default() };
@@ -105,7 +106,8 @@ fn put_token(out: &mut Listing, file: &File, t: &Token, pos: Pos) {
     }
 }
 
-// Lists the tokens to the first EOF. False if none came: n characters give 2n tokens at most before it.
+// Lists the tokens to the first EOF. False if none came: n characters give 2n tokens at most before
+// it.
 fn put_tokens(out: &mut Listing, scanner: &mut Scanner, n: usize) -> bool {
     for _ in 0..2 * n + 2 {
         let (t, pos) = scanner.scan();
@@ -117,8 +119,8 @@ fn put_tokens(out: &mut Listing, scanner: &mut Scanner, n: usize) -> bool {
     false
 }
 
-// The line starts less the base. The original panics when it is asked for the last one, but tells the last
-// column, and no start is above the size.
+// The line starts less the base. The original panics when it is asked for the last one, but tells
+// the last column, and no start is above the size.
 fn put_starts(out: &mut Listing, file: &File) {
     let lines = file.line_count();
     out.starts.extend((1..lines).map(|line| file.line_start(line) - file.base()));
@@ -143,7 +145,8 @@ pub fn list(source: &str, base: usize, size: usize, out: &mut Listing) {
     put_starts(out, file);
 }
 
-/// What the original answers for each question about a text that it has scanned; nothing for a panic.
+/// What the original answers for each question about a text that it has scanned; nothing for a
+/// panic.
 pub struct Answers {
     /// For the lines 0 to the line count and one more.
     pub line_starts: Vec<Option<usize>>,

@@ -1,5 +1,6 @@
-// Runs the program `tokens` over the recorded inputs whose size is their number of bytes, and over texts at its limits. What it prints is
-// the recorded answer: the original's (oracle/recorded.txt), or where they differ ours (oracle/ours.txt). Status 1: it is not.
+// Runs the program `tokens` over the recorded inputs whose size is their number of bytes, and over
+// texts at its limits. It must print the recorded answer: the original's (oracle/recorded.txt) or,
+// where the two differ, ours (oracle/ours.txt). Status 1: it prints something else.
 mod listing;
 mod recorded;
 
@@ -19,7 +20,8 @@ fn raw(n: usize) -> Vec<u8> {
     [b"`\r", "a".repeat(n).as_bytes(), b"`"].concat()
 }
 
-// Texts at the limits of input, line table, error list and text area, and what the listing ends with.
+// Texts at the limits of input, line table, error list and text area, and what the listing ends
+// with.
 fn limits() -> [(Vec<u8>, &'static str); 8] {
     [
         (" ".repeat(LONGEST).into(), "65536 1 65537 2 -\nL 1\n"),

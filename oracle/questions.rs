@@ -1,4 +1,5 @@
-//! Questions about a text that was scanned to its end: where its lines start, and the line and column of positions.
+//! Questions about a text that was scanned to its end: where its lines start, and the line and
+//! column of positions.
 
 use crate::differences::{Entry, NAMES};
 use crate::listing::Listing;
@@ -13,8 +14,9 @@ pub struct Counts {
 }
 
 impl Counts {
-    /// Asks about every line and every position, and those next to them. The base is 5 where the original has no
-    /// error to misplace, else 0. Where the original panics in a scan nothing is asked.
+    /// Asks about every line and every position, and those next to them. The base is 5 where the
+    /// original has no error to misplace, else 0. Where the original panics in a scan nothing is
+    /// asked.
     pub fn ask(&mut self, source: &[u8], size: usize, listing: &Listing) -> Result<(), String> {
         let base = if listing.errors.is_empty() && size < 1 << 31 { 5 } else { 0 };
         let last = listing.rows.last().map_or(0, |row| row.offset);

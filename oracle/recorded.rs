@@ -3,7 +3,8 @@
 use crate::listing::{put_hex, recorded_input};
 use std::collections::HashMap;
 
-/// A case: `I size bytes`, the entries that explain a difference (`D name`, each), the answer, a dot.
+/// A case: `I size bytes`, the entries that explain a difference (`D name`, each), the answer, a
+/// dot.
 #[derive(Debug, Default)]
 pub struct Case {
     /// The line `I size bytes`.

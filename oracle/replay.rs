@@ -1,5 +1,6 @@
-// Runs our scanner over the recorded inputs and holds its answers to those of the original (oracle/recorded.txt), or
-// where they differ to oracle/ours.txt. Status 1: an answer that is neither.
+// Runs our scanner over the recorded inputs. Each answer must be the original's
+// (oracle/recorded.txt) or, where the two differ, the one in oracle/ours.txt. Status 1: an answer
+// is neither.
 mod listing;
 mod ours;
 mod recorded;

@@ -68,7 +68,7 @@ fn lend(machine: Machine, source: &[u8], letter: u8, function: u8) -> Machine {
     }
 }
 
-// Makes a call; behind its answer, `changed` where it changed the state or a buffer.
+// Makes a call. After its answer comes `changed` if it changed the state or a buffer.
 fn lend_and_compare(machine: Machine, source: &[u8], letter: u8, function: u8) -> Machine {
     let after = lend(machine, source, letter, function);
     if sum_all(after) != sum_all(machine) {

@@ -1,11 +1,13 @@
-// What the scanner and the crates below it answer to bad input. The cases come as text, a line each: its label, which is written as it stands, a
-// colon and the words of the case, of which the calls are written, each with its answer. A line with no colon is a heading.
+// What the scanner and the crates below it answer to bad input. The cases are text, one to a line:
+// a label, a colon and the words of the case. The label is written as it is, then each call of the
+// case with its answer. A line without a colon is a heading.
 //
 // A case starts with the registers of `FRESH`; the buffers keep what they hold. Its words:
 // - a small letter and a number: the register with that letter, see `registers`
 // - bytes between two `'`: the source, see `meant`
 // - a capital and a small letter: a call. The capital says of what:
-//   U utf8, K keywords and kinds, P position, E errors, S the scanner, X parts of the source and of the area, T the table
+//   U utf8, K keywords and kinds, P position, E errors, S the scanner,
+//   X parts of the source and of the area, T the table
 mod calls;
 mod machine;
 mod places;

@@ -3,7 +3,8 @@ use scanner::State;
 
 pub(crate) type Registers = [usize; 17];
 
-// How much is lent: s of the source, t of the table, r of the error list in numbers, a of the text area.
+// How much is lent: s of the source, t of the table, r of the error list in numbers, a of the text
+// area.
 pub(crate) const SOURCE: usize = 7;
 
 pub(crate) const TABLE: usize = 8;
@@ -19,17 +20,20 @@ pub(crate) const START: usize = 12;
 
 pub(crate) const END: usize = 13;
 
-// What a byte of the cases belongs to, where the source starts in them, and the register whose number is being read.
+// What a byte of the cases belongs to, where the source starts in them, and the register whose
+// number is being read.
 pub(crate) const MODE: usize = 14;
 
 pub(crate) const FROM: usize = 15;
 
 const READ: usize = 16;
 
-// What a case starts with: the state after a first scan of `x:=017` LF at base 10 in size 9, no source, and buffers that have room.
+// What a case starts with: the state after a first scan of `x:=017` LF at base 10 in size 9, no
+// source, and buffers that have room.
 pub(crate) const FRESH: Registers = [10, 9, 1, 1, 1, 1, 0, 0, 2, 8, 16, 0, 0, 0, 1, 0, 0];
 
-// The register with a letter. The first seven are the state: base, size, place, offset, mark, line count and error count.
+// The register with a letter. The first seven are the state: base, size, place, offset, mark, line
+// count and error count.
 fn register(letter: u8) -> usize {
     match letter {
         b'b' => 0,

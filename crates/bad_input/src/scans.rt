@@ -105,7 +105,8 @@ fn ask(function: u8, state: State, table: &[usize], list: &[usize], n: usize) ->
     state
 }
 
-// S: opening, a scan, or a question, of the state, the source, the buffers and n; gives the state after it.
+// S: opening, a scan, or a question, of the state, the source, the buffers and n; gives the state
+// after it.
 pub(crate) fn call<'a>(
     function: u8,
     registers: Registers,

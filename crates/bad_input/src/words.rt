@@ -8,7 +8,8 @@ use crate::registers::SOURCE;
 use crate::registers::with;
 use crate::show;
 
-// The modes: what a byte belongs to. In a mode above these, a capital, it is the second letter of a call.
+// The modes: what a byte belongs to. In a mode above these, a capital, it is the second letter of a
+// call.
 const LABEL: usize = 0;
 
 pub(crate) const WORDS: usize = 1;

@@ -20,7 +20,8 @@ pub record ManyRun : Type 0 where
   pub area : List ℕ
   pub tokens : List Token
 
--- no scan is made behind a token that shows something from the text area, since it would write over that, and behind EOF
+-- no scan is made after EOF, nor after a token that shows something from the text area, since it
+-- would write over that
 abbrev pub isLast : Token → Bool
 isLast t = t .text .area || t .value .area || eqb (t .kind) EOF
 
@@ -32,7 +33,8 @@ stopped s table list area = record { state = s; table = table; list = list; area
 abbrev pub tokenBefore : Token → ManyRun → ManyRun
 tokenBefore t r = record { state = r .state; table = r .table; list = r .list; area = r .area; tokens = t ∷ r .tokens }
 
--- as many scans as there is room for tokens; they stop behind a last token, and before a scan that is refused
+-- as many scans as there is room for tokens; they stop after a last token, and before a scan that
+-- is refused
 unfoldable pub manyOf : ℕ → List ℕ → State → List ℕ → List ℕ → List ℕ → ManyRun
 manyOf zero src s table list area = stopped s table list area
 manyOf (suc n) src s table list area =
@@ -62,7 +64,7 @@ pub record ManyLeft : Type 0 where
   pub tokens : List ℕ
   pub count : ℕ
 
--- the tokens of these scans are written behind n others
+-- the tokens of these scans are written after n others
 abbrev pub leftAfter : ℕ → List ℕ → ManyRun → ManyLeft
 leftAfter n tokens r =
     record {
@@ -80,7 +82,8 @@ abbrev pub manyRefused : ℕ → State → List ℕ → List ℕ → List ℕ �
 manyRefused n s table list area tokens =
     record { refusal = n; state = s; table = table; list = list; area = area; tokens = tokens; count = 0 }
 
--- many scans in one call: it is refused where there is no room for a token, and where the first scan is
+-- many scans in one call: it is refused where there is no room for a token, and where the first
+-- scan is
 unfoldable pub scanManyOf : List ℕ → State → List ℕ → List ℕ → List ℕ → List ℕ → ManyLeft
 scanManyOf src s table list area tokens =
     let n = scanOf src s table list area .answer .refusal in

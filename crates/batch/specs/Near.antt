@@ -14,7 +14,7 @@ use Rattle.batch.specs.declared.near.Near.{Near}
 abbrev pub lineFeed : ℕ
 lineFeed = code "\n"
 
--- a place is another one, or behind a space there
+-- a place is another one, or after a space there
 abbrev pub SpaceTo : List ℕ → ℕ → ℕ → Type 0
 SpaceTo src at p = (p ≡ at) ⊎ ((getD src at 0 ≡ code " ") × (p ≡ at + 1))
 

@@ -14,7 +14,7 @@ use Rattle.batch.specs.declared.step.Reached.{Reached}
 use Rattle.batch.specs.declared.round.Round.{Round}
 use Rattle.batch.specs.Many.{stopped, manyOf, leftAfter}
 
--- the state at a place behind simple tokens, whose characters are of one byte each
+-- the state at a place after simple tokens, whose characters are of one byte each
 abbrev pub stateAt : State → ℕ → Bool → ℕ → State
 stateAt s place mark lines = advance s place (s .offset + (place - s .place)) mark lines (s .errors)
 
@@ -22,17 +22,18 @@ stateAt s place mark lines = advance s place (s .offset + (place - s .place)) ma
 abbrev pub reached : State → Reached → State
 reached s r = stateAt s (r .place) (r .mark) (r .lines)
 
--- from each place before the safe one more than sixteen bytes are in the source, and the offset stays below the size
+-- from each place before the safe one more than sixteen bytes are in the source, and the offset
+-- stays below the size
 abbrev pub IsSafe : List ℕ → State → ℕ → Type 0
 IsSafe src s safe = (p : ℕ) → p < safe → (p + 16 < length src) × (p + 16 < s .place + (s .size - s .offset))
 
--- what is written behind blanks: nothing, or behind one line feed where the next line starts
+-- what is written after blanks: nothing, or after one line feed where the next line starts
 abbrev pub Recorded : State → Skipped → List ℕ → List ℕ → Type 0
 Recorded s b table table′ =
     ((b .lfs ≤ 0) × (table′ ≡ table)) ⊎ ((b .lfs ≡ 1) × (s .lines < length table) × (table′ ≡ set table (s .lines) (s .offset + (b .line - s .place))))
 
--- from a state and n tokens simple tokens lead to another state and n′ tokens: the scans that are left give the same; with no token more,
--- the next scan is the same
+-- from a state and n tokens simple tokens lead to another state and n′ tokens: the scans that are
+-- left give the same; with no token more, the next scan is the same
 pub record Leads (room : ℕ) (src list : List ℕ) (s : State) (table tokens : List ℕ) (n : ℕ) (s′ : State) (table′ tokens′ : List ℕ) (n′ : ℕ) : Type 0 where
   pub fit : fits s′ src table′ list ≡ true
   pub over : n ≤ n′
@@ -41,8 +42,8 @@ pub record Leads (room : ℕ) (src list : List ℕ) (s : State) (table tokens : 
       → leftAfter n tokens (manyOf (room - n) src s table list area) ≡ leftAfter n′ tokens′ (manyOf (room - n′) src s′ table′ list area)
   pub same : n′ ≡ n → (area : List ℕ) → scanOf src s table list area ≡ scanOf src s′ table′ list area
 
--- from a state and n tokens rounds of scans come to another state and its count, and perhaps to the end of the scans; with no token more,
--- the next scan is the same, or it was refused
+-- from a state and n tokens rounds of scans come to another state and its count, and perhaps to the
+-- end of the scans; with no token more, the next scan is the same, or it was refused
 pub record Comes (room : ℕ) (src : List ℕ) (s : State) (table list area tokens : List ℕ) (n : ℕ) (r : Round) (table′ list′ area′ tokens′ : List ℕ) : Type 0 where
   pub fit : fits (r .state) src table′ list′ ≡ true
   pub over : n ≤ r .count

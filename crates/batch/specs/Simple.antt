@@ -26,7 +26,8 @@ unfoldable pub rowsFrom : ℕ → List Row → List Row
 rowsFrom b [] = []
 rowsFrom b (row ∷ rows) = cond (eqb (getD (row .name) 0 0) b) (row ∷ rowsFrom b rows) (rowsFrom b rows)
 
--- what the first byte of these operators tells: a delimiter of its kind, if it is the only one and all of it; else ADD
+-- what the first byte of these operators tells: a delimiter of its kind, if it is the only one and
+-- all of it; else ADD
 abbrev pub operatorFirst : List Row → ℕ
 operatorFirst [] = ILLEGAL
 operatorFirst (row ∷ []) = cond (eqb (length (row .name)) 1) (row .kind) ADD
@@ -36,7 +37,8 @@ operatorFirst (row ∷ next ∷ rows) = ADD
 abbrev pub quote : ℕ
 quote = code "\""
 
--- what a first byte tells; behind a point there may be a number or another operator, a slash may start a comment
+-- what a first byte tells; after a point there may be a number or another operator, a slash may
+-- start a comment
 unfoldable pub firstKind : ℕ → ℕ
 firstKind b =
     cond (isLetter b) IDENT
@@ -49,7 +51,8 @@ firstKind b =
 abbrev pub IsTable : List ℕ → Type 0
 IsTable table = (length table ≡ 256) × ((b : ℕ) → b < 256 → getD table b 0 ≡ firstKind b)
 
--- the tables of the keywords of at most eight bytes: their numbers and their kinds, each in its slot
+-- the tables of the keywords of at most eight bytes: their numbers and their kinds, each in its
+-- slot
 abbrev pub IsKeywords : List ℕ → List ℕ → Type 0
 IsKeywords numbers kinds = (numbers ≡ bySlot (λ slot. rowIn slot keywords .1)) × (kinds ≡ bySlot (λ slot. rowIn slot keywords .0))
 
@@ -81,8 +84,9 @@ stringToken position start close =
 abbrev pub wordToken : ℕ → ℕ → ℕ → ℕ → Token
 wordToken kind position at end = simpleToken kind false position at (cond (eqb kind IDENT) end at)
 
--- what was given is what the lexer says of the token at a place, whatever the mark is: a plain token of ASCII characters, no line feed
--- among them, that ends at most sixteen bytes behind the safe place
+-- what was given is what the lexer says of the token at a place, whatever the mark is: a plain
+-- token of ASCII characters, no line feed among them, that ends at most sixteen bytes after the
+-- safe place
 pub record Gave (src : List ℕ) (at safe position : ℕ) (tokens : List ℕ) (to : ℕ) (r : Next) (tokens′ : List ℕ) : Type 0 where
   pub x : Lexed
   pub reads : (mark : Bool) → said src at x ≡ placed src at (lexToken mark (chars (drop at src)))

@@ -30,7 +30,8 @@ fn digits_end(src: &[u8], firsts: &[u8; 256], at: usize, safe: usize) -> usize
     end
 }
 
-// Gives the decimal integer at a place: digits alone, no 0 before others, and nothing behind them that belongs to a number or a word.
+// Gives the decimal integer at a place. It has digits only, no leading 0, and nothing after it that
+// belongs to a number or a word.
 pub(crate) fn decimal(
     src: &[u8],
     firsts: &[u8; 256],
@@ -68,7 +69,8 @@ pub(crate) fn decimal(
     }
 }
 
-// Writes a string to the numbers from an index on; its text is the source's bytes from its start to the closing quote, its value those between the quotes.
+// Writes a string to the numbers from an index on. Its text is the source's bytes from its start to
+// the closing quote, its value those between the quotes.
 fn put_string(start: usize, close: usize, position: usize, tokens: &mut [usize], to: usize)
     requires { ⌜ (start + 1 < 2 ^ 64) × (close + 1 < 2 ^ 64) × (to + tokenWidth ≤ length (now tokens)) ⌝ }
     ensures { λ r. ⌜ now (tokens .exit) ≡ sets (now (tokens .entry)) to (tokenNumbers (stringToken position start close)) ⌝ }

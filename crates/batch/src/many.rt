@@ -12,8 +12,8 @@ ghost use Rattle.state.specs.Fits.{fits};
 ghost use Rattle.parts.specs.Layout.{tokenWidth};
 ghost use Rattle.batch.specs.Many.{scanManyOf};
 
-// The refusal of the call, or 0; the state after its scans; how many tokens they gave. A call that is refused leaves the state as it was and
-// gives no token.
+// The refusal of the call, or 0; the state after its scans; how many tokens they gave. A call that
+// is refused leaves the state as it was and gives no token.
 pub struct Batch {
     pub refusal: u8,
     pub state: State,
@@ -40,7 +40,8 @@ fn gave(state: State, count: usize) -> Batch
     }
 }
 
-// Scans until a token is the last, the next scan would be refused or there is no room for one more token.
+// Scans until a token is the last, the next scan would be refused or there is no room for one more
+// token.
 fn scan_rounds(
     src: &[u8],
     first: State,
@@ -78,9 +79,10 @@ fn scan_rounds(
     gave(round.state, round.count)
 }
 
-// Scans token after token, as many as `tokens` has room for, ten numbers each. It stops behind a token that shows something from the text
-// area, since the next scan would write over it, behind EOF, and before a scan that would be refused. A call without room for a token is
-// refused, and so is one whose first scan is; it changes nothing.
+// Scans token after token, as many as `tokens` has room for, ten numbers each. It stops after EOF,
+// before a scan that would be refused, and after a token that shows something from the text area,
+// since the next scan would write over that. A call without room for a token is refused, and so is
+// one whose first scan is refused. A refused call changes nothing.
 pub fn scan_many(
     src: &[u8],
     first: State,

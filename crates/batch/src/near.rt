@@ -5,8 +5,9 @@ ghost use Prim.Native.Nat.{_+_, _≤_};
 ghost use lib.ListN.{length, getD};
 ghost use Rattle.batch.specs.Near.{lineFeed, SpaceTo, NearAt};
 
-// Such blanks: whether they are, the place after them, whether they have a line feed, and the place after it, or where they start.
-// (Small fields side by side would be packed into one number and taken out of it again.)
+// Such blanks: whether there are any, the place after them, whether they have a line feed, and the
+// place after that line feed, or where they start. (Small fields side by side would be packed into
+// one number and taken out of it again.)
 pub(crate) struct Near {
     pub(crate) found: bool,
     pub(crate) end: usize,
@@ -51,7 +52,7 @@ pub(crate) fn near_blanks(src: &[u8], at: usize, mark: bool) -> Near
     line_feed(src, at, p, mark)
 }
 
-// The same where a line feed stands at the place p, behind a space or nothing.
+// The same where a line feed is at the place p, after a space or nothing.
 fn line_feed(src: &[u8], at: usize, p: usize, mark: bool) -> Near
     requires { ⌜ (p + 10 ≤ length (now src)) × (getD (now src) p 0 ≡ lineFeed) × SpaceTo (now src) at p ⌝ }
     ensures { λ r. ⌜ NearAt (now (src .entry)) at mark r ⌝ }

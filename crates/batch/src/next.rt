@@ -10,7 +10,8 @@ ghost use lib.Seq.{sets};
 ghost use Rattle.parts.specs.Layout.{tokenWidth, tokenNumbers};
 ghost use Rattle.batch.specs.Simple.{simpleToken};
 
-// What comes of a simple token: whether it is found, the place after it, and the mark that it leaves.
+// What comes of a simple token: whether it is found, the place after it, and the mark that it
+// leaves.
 pub(crate) struct Next {
     pub(crate) found: bool,
     pub(crate) place: usize,
@@ -27,7 +28,8 @@ pub(crate) fn none(at: usize) -> Next
     }
 }
 
-// Writes a token without a value to the numbers from an index on; its text is the source's bytes from its start to an end.
+// Writes a token without a value to the numbers from an index on; its text is the source's bytes
+// from its start to an end.
 pub(crate) fn put_shown(
     kind: u8,
     inserted: bool,

@@ -1,4 +1,4 @@
-// Rounds of scans: a run of simple tokens, and a whole scan for the token behind them.
+// Rounds of scans: a run of simple tokens, and a whole scan for the token after them.
 use crate::layout::put_token_at;
 use crate::run::Run;
 use crate::run::run_simple;
@@ -16,7 +16,8 @@ ghost use Rattle.batch.specs.Many.{isLast};
 ghost use Rattle.batch.specs.Simple.{IsTable, IsKeywords};
 ghost use Rattle.batch.specs.Run.{Comes};
 
-// How far scans have come: whether they go on, the state, the refusal of the next scan, or 0, and how many tokens they gave.
+// How far scans have come: whether they go on, the state, the refusal of the next scan, or 0, and
+// how many tokens they gave.
 pub(crate) struct Round {
     pub(crate) more: bool,
     pub(crate) state: State,
@@ -48,14 +49,14 @@ fn last_round(refusal: u8, state: State, count: usize) -> Round
     }
 }
 
-// Is no scan to be made behind this token?
+// Is no scan to be made after this token?
 fn is_last(t: Token) -> bool
     ensures { λ r. ⌜ r ≡ isLast t ⌝ }
 {
     t.text.area | t.value.area | (t.kind == kinds::EOF)
 }
 
-// Is one more scan to be made behind this token, where there are so many?
+// Is one more scan to be made after this token, where there are so many?
 fn goes_on(t: Token, count: usize, room: usize) -> bool
     ensures { λ r. ⌜ r ≡ not (isLast t) && ltb count room ⌝ }
 {
@@ -65,7 +66,7 @@ fn goes_on(t: Token, count: usize, room: usize) -> bool
     count < room
 }
 
-// One scan behind so many tokens. A token is written as ten numbers.
+// One scan after so many tokens. A token is written as ten numbers.
 fn scan_next(
     src: &[u8],
     from: Run,

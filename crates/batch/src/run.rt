@@ -17,7 +17,7 @@ pub(crate) struct Run {
     pub(crate) count: usize,
 }
 
-// The state at a place behind simple tokens, whose characters are of one byte each.
+// The state at a place after simple tokens, whose characters are of one byte each.
 fn state_at(first: State, place: usize, mark: bool, lines: usize) -> State
     requires { ⌜ (first .place ≤ place) × (first .offset + (place - first .place) < 2 ^ 64) ⌝ }
     ensures { λ r. ⌜ r ≡ stateAt first place mark lines ⌝ }
@@ -26,7 +26,8 @@ fn state_at(first: State, place: usize, mark: bool, lines: usize) -> State
     first.advanced(place, offset, mark, lines, first.errors)
 }
 
-// A place before which simple tokens start: from there more than sixteen bytes are in the source, and the offset stays below the size.
+// A place before which simple tokens start: from there more than sixteen bytes are in the source,
+// and the offset stays below the size.
 fn safe_end(src: &[u8], first: State) -> usize
     requires { ⌜ (first .place ≤ length (now src)) × (first .offset ≤ first .size) × (first .size < 2 ^ 32) ⌝ }
     ensures { λ r. ⌜ IsSafe (now (src .entry)) first r ⌝ }
@@ -36,7 +37,8 @@ fn safe_end(src: &[u8], first: State) -> usize
     if limit < 16 { 0 } else { limit - 16 }
 }
 
-// Simple tokens one after the other, behind so many, while there is room. The keywords are a table of keys and values. What changes from token to token is kept in few numbers.
+// Gives simple tokens one after the other while there is room; `from` were given before. The
+// keywords are a table of keys and values. What changes from token to token is kept in few numbers.
 pub(crate) fn run_simple(
     src: &[u8],
     firsts: &[u8; 256],

@@ -1,5 +1,6 @@
-// Simple tokens: words, delimiters, operators but those that start with a slash, decimal integers, strings of plain characters, and the
-// semicolon that is inserted before a line feed. The first byte tells what to try. Their text is the source's own bytes.
+// Simple tokens: words, delimiters, operators but those that start with a slash, decimal integers,
+// strings of plain characters, and the semicolon that is inserted before a line feed. The first
+// byte tells what to try. Their text is the source's own bytes.
 use crate::literal::decimal;
 use crate::literal::string;
 use crate::next::Next;
@@ -86,8 +87,9 @@ fn semicolon(
     }
 }
 
-// Gives the simple token at a place before which it is safe to read on, if there is one: it is written to the numbers from an index on.
-// Each kind is written by itself, so that what it leaves empty takes no time.
+// Gives the simple token at a place before which it is safe to read on, if there is one: it is
+// written to the numbers from an index on. Each kind is written by itself, so that what it leaves
+// empty takes no time.
 pub(crate) fn give_simple(
     src: &[u8],
     firsts: &[u8; 256],

@@ -1,4 +1,4 @@
-// A step of a run: one simple token behind the blanks before it.
+// A step of a run: blanks, and one simple token after them.
 use crate::near::Near;
 use crate::near::near_blanks;
 use crate::near::no_blanks;
@@ -15,8 +15,8 @@ ghost use Rattle.batch.specs.Near.{nearAs, NearAt};
 ghost use Rattle.batch.specs.Simple.{IsTable, IsKeywords};
 ghost use Rattle.batch.specs.Run.{stateAt, reached, IsSafe, Recorded, Leads};
 
-// How far a run of simple tokens has come, and whether it goes on: the place, the mark and the count of line starts there, and how many
-// tokens there are.
+// How far a run of simple tokens has come, and whether it goes on: the place, the mark and the
+// count of line starts there, and how many tokens there are.
 pub(crate) struct Reached {
     pub(crate) more: bool,
     pub(crate) place: usize,
@@ -25,7 +25,7 @@ pub(crate) struct Reached {
     pub(crate) count: usize,
 }
 
-// A run that starts behind so many tokens.
+// A run that starts after so many tokens.
 pub(crate) fn begun(first: State, count: usize) -> Reached
     ensures { λ r. ⌜ r ≡ record { more = true; place = first .place; mark = first .mark; lines = first .lines; count = count } ⌝ }
 {
@@ -51,7 +51,8 @@ fn ended(at: Reached) -> Reached
     }
 }
 
-// May a token be given behind these blanks? It starts before the safe place, and there is room for the line start.
+// May a token be given after these blanks? It starts before the safe place, and there is room for
+// the line start.
 fn is_ready(blanks: Near, safe: usize, lines: usize, table: &[usize]) -> bool
     ensures { λ r. ⌜ (r ≡ true → (blanks .found ≡ true) × (blanks .end < safe) × (blanks .lf ≡ true → lines < length (now (table .entry)))) ⌝ }
 {
@@ -67,7 +68,7 @@ fn is_ready(blanks: Near, safe: usize, lines: usize, table: &[usize]) -> bool
     true
 }
 
-// The blanks at a place, found where a token may be given behind them.
+// The blanks at a place, found where a token may be given after them.
 fn ready_blanks(src: &[u8], safe: usize, at: Reached, table: &[usize]) -> Near
     requires { ⌜ ((p : ℕ) → p < safe → p + 16 < length (now src)) ⌝ }
     ensures { λ r. ⌜ NearAt (now (src .entry)) (at .place) (at .mark) r
@@ -83,7 +84,8 @@ fn ready_blanks(src: &[u8], safe: usize, at: Reached, table: &[usize]) -> Near
     blanks
 }
 
-// Records the line start behind the line feed of blanks, if they have one; answers how many line starts there are then.
+// Records the line start after the line feed of blanks, if they have one; answers how many line
+// starts there are then.
 fn record_line(
     first: State,
     place: usize,

@@ -54,7 +54,8 @@ fn long_word(
     give_word(kind, at, end, position, tokens, to)
 }
 
-// Gives the word at a place; one of fewer than eight bytes is searched among the keywords as a number.
+// Gives the word at a place; one of fewer than eight bytes is searched among the keywords as a
+// number.
 pub(crate) fn word(
     src: &[u8],
     keys: &[u64; 64],

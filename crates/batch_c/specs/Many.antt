@@ -38,7 +38,8 @@ scansBy l state answer =
       answer = sets answer 0 (l .count ∷ []);
     }
 
--- it is refused where a slice is too short for a state or an answer, and where many scans from the state in the numbers are
+-- it is refused where a slice is too short for a state or an answer, and where many scans from the
+-- state in the numbers are
 unfoldable pub scanManyNumbers : List ℕ → List ℕ → List ℕ → List ℕ → List ℕ → List ℕ → List ℕ → ManyCallLeft
 scanManyNumbers src state table list area tokens answer =
     let l = scanManyOf src (stateIn state) table list area tokens in

@@ -1,4 +1,5 @@
-// The exported function: it answers the number of its refusal, or 0, and writes what it gives to lent slices. A refusal writes nothing.
+// The exported function: it answers the number of its refusal, or 0, and writes what it gives to
+// lent slices. A refusal writes nothing.
 use refusal::too_short;
 use state::State;
 use state::put_state;
@@ -6,9 +7,10 @@ use state::state_in;
 ghost use mathlib.Core.Path.{_≡_};
 ghost use Rattle.batch_c.specs.Many.{scanManyNumbers};
 
-// Scans token after token, as many as `tokens` has room for, ten numbers each. It stops behind a token that shows something from the text
-// area, since the next scan would write over it, behind EOF, and before a scan that would be refused; `answer` gets the number of tokens
-// given. A call is refused without room for a state, an answer or a token, and where its first scan is.
+// Scans token after token, as many as `tokens` has room for, ten numbers each. It stops after EOF,
+// before a scan that would be refused, and after a token that shows something from the text area,
+// since the next scan would write over that. `answer` gets the number of tokens. A call without
+// room for a state, an answer or a token is refused, and so is one whose first scan is refused.
 #[no_mangle]
 pub extern "C" fn scanner_scan_many(
     src: &[u8],

@@ -1,4 +1,5 @@
-// Checks what it reads from standard input, up to 65,536 bytes, 100,000 times over, and prints the last answer.
+// Checks what it reads from standard input, up to 65,536 bytes, 100,000 times over, and prints the
+// last answer.
 use libc::STDIN_FILENO;
 use libc::STDOUT_FILENO;
 use validation::Checked;

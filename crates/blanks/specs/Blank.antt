@@ -1,4 +1,5 @@
--- Blanks: "Space, tab, CR, and LF unless "now" is set, are skipped." The mark is what 01 calls "now".
+-- Blanks: "Space, tab, CR, and LF unless "now" is set, are skipped." The mark is what 01 calls
+-- "now".
 use Prim.Native.Nat.{ℕ, suc, _+_}
 use Prim.Native.Char.{code}
 use mathlib.Core.Bool.{Bool, cond, not, _&&_, _||_}
@@ -14,7 +15,8 @@ isSpace c = eqb c (code " ") || eqb c (code "\t") || eqb c (code "\r")
 unfoldable pub isBlank : Bool → ℕ → Bool
 isBlank mark c = isSpace c || (eqb c (code "\n") && not mark)
 
--- how many characters are skipped, how many of them are line feeds, and how many stand up to the last line feed
+-- how many characters are skipped, how many of them are line feeds, and how many come up to the
+-- last line feed, with it
 pub record Skip : Type 0 where
   pub len : ℕ
   pub lfs : ℕ

@@ -5,7 +5,8 @@ ghost use Rattle.utf8.specs.Chars.{chars};
 ghost use Rattle.blanks.specs.Blank.{isSpace, skip, skippedAt};
 ghost use Rattle.blanks.specs.Tabs.{TabsAt};
 
-// Blanks that were skipped: the place after them, how many line feeds they have, and the place after the last of these, or where they start.
+// Blanks that were skipped: the place after them, how many line feeds they have, and the place
+// after the last of these, or where they start.
 pub struct Skipped {
     pub end: usize,
     pub lfs: usize,
@@ -25,7 +26,8 @@ pub fn is_space(b: u8) -> bool
     b == b'\r'
 }
 
-// Skips blanks byte by byte. Which bytes up to a space are blanks is told by the bits of a number: 9 and 13 (tab, CR), 32 (space), and 10 (LF).
+// Skips blanks byte by byte. The bits of a number tell which bytes up to a space are blanks: 9 and
+// 13 (tab, CR), 32 (space), and 10 (LF).
 fn skip_bytes(src: &[u8], at: usize, mark: bool) -> Skipped
     ensures { λ r. ⌜ r ≡ skippedAt at (skip mark (chars (drop at (now (src .entry))))) ⌝ }
 {
@@ -72,7 +74,8 @@ fn skip_line(src: &[u8], at: usize, mark: bool) -> Skipped
     skip_bytes(src, at, mark)
 }
 
-// Skips blanks; a line feed is one unless the mark is set. Between most tokens stands one space or nothing, which takes no loop.
+// Skips blanks; a line feed is one unless the mark is set. Between most tokens there is one space
+// or nothing, which takes no loop.
 pub fn skip_blanks(src: &[u8], at: usize, mark: bool) -> Skipped
     ensures { λ r. ⌜ r ≡ skippedAt at (skip mark (chars (drop at (now (src .entry))))) ⌝ }
 {

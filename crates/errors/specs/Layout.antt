@@ -11,7 +11,7 @@ width = 4
 unfoldable pub numbers : Error → List ℕ
 numbers e = e .offset ∷ e .line ∷ e .column ∷ e .number ∷ []
 
--- the error whose record stands at a place
+-- the error whose record is at a place
 unfoldable pub recordAt : List ℕ → ℕ → Error
 recordAt list at =
     record {

@@ -1,4 +1,5 @@
--- The numbers of the errors, under the names of the code's constants, with - for _. 0 stands for no error.
+-- The numbers of the errors, under the names of the code's constants, with - for _. 0 means no
+-- error.
 use Prim.Native.Nat.{ℕ}
 
 -- binary number

@@ -27,7 +27,7 @@ pub(crate) fn write(list: &mut [usize], at: usize, error: Error)
     list[at + 3] = error.number;
 }
 
-// The error whose record stands at a place.
+// The error whose record is at a place.
 pub(crate) fn read(list: &[usize], at: usize) -> Error
     requires { ⌜ at + width ≤ length (now list) ⌝ }
     ensures { λ r. ⌜ r ≡ recordAt (now (list .entry)) at ⌝ }

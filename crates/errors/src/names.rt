@@ -1,4 +1,4 @@
-// The numbers of the errors. 0 stands for no error.
+// The numbers of the errors. 0 means no error.
 
 // Binary, octal and hexadecimal numbers without a digit, or with a digit above their base.
 pub const BAD_BINARY: u8 = 1;
@@ -7,7 +7,7 @@ pub const BAD_OCTAL: u8 = 2;
 
 pub const BAD_HEXADECIMAL: u8 = 3;
 
-// An underscore in a number that does not stand between digits or after a prefix.
+// An underscore in a number that is neither between digits nor after a prefix.
 pub const MISPLACED_UNDERSCORE: u8 = 4;
 
 // An exponent without digits.
@@ -20,7 +20,8 @@ pub const OPEN_COMMENT: u8 = 7;
 
 pub const OPEN_QUOTE: u8 = 8;
 
-// Escapes: an unknown one, one that the end cuts, one with a bad character, one that is no Unicode code point.
+// Escapes: an unknown one, one that the end cuts, one with a bad character, one that is no Unicode
+// code point.
 pub const UNKNOWN_ESCAPE: u8 = 9;
 
 pub const CUT_ESCAPE: u8 = 10;

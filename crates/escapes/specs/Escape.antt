@@ -76,7 +76,8 @@ hexEscape first r =
       meaning = cond (eqb first (code "x")) (byteOf (escapeDigits 16 (following first) 0 r)) (codePointOf (escapeDigits 16 (following first) 0 r));
     })
 
--- the escape that follows a backslash in a literal with the quote given; the end of the text cuts it
+-- the escape that follows a backslash in a literal with the quote given; the end of the text cuts
+-- it
 unfoldable pub escapeOf : ℕ → List Char → Escape
 escapeOf quote [] = unreadEscape CUT-ESCAPE
 escapeOf quote (c ∷ r) =

@@ -16,7 +16,8 @@ noMoreDigits value error = record { value = value; len = 0; error = error }
 abbrev pub oneDigitMore : EscapeDigits → EscapeDigits
 oneDigitMore n = record { value = n .value; len = suc (n .len); error = n .error }
 
--- exactly so many digits below the base, after digits of the value given: an error where the end cuts them, and where another character stands
+-- exactly so many digits below the base, after digits of the value given: an error where the end
+-- cuts them, and where another character comes instead
 unfoldable pub escapeDigits : ℕ → ℕ → ℕ → List Char → EscapeDigits
 escapeDigits base zero value r = noMoreDigits value 0
 escapeDigits base (suc n) value [] = noMoreDigits value CUT-ESCAPE

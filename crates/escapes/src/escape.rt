@@ -89,7 +89,7 @@ fn unread(error: u8) -> Escaped
     }
 }
 
-// The escape of hexadecimal digits, which stand at a place after its first byte.
+// The escape of hexadecimal digits, which are at a place after its first byte.
 fn hex_at(src: &[u8], at: usize, first: u8) -> Escaped
     ensures { λ r. ⌜ says r ≡ hexEscape first (chars (drop at (now (src .entry)))) ⌝ }
 {

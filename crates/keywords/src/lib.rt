@@ -68,7 +68,8 @@ fn number_of(text: &[u8], n: usize) -> u64
 // A keyword's kind, and its spelling as a number.
 struct Row(u8, u64);
 
-// The slot of a word by its length and its first two bytes: no two keywords of at most eight bytes share one.
+// The slot of a word by its length and its first two bytes: no two keywords of at most eight bytes
+// share one.
 fn slot_of(number: u64, n: usize) -> u64
     requires { ⌜ n ≤ 8 ⌝ }
     ensures { λ r. ⌜ r ≡ slotOf number n ⌝ }
@@ -129,8 +130,8 @@ pub fn ident_token(text: &[u8], len: usize) -> u8
     if row.1 == number { row.0 } else { IDENT }
 }
 
-// The keywords of at most eight bytes as numbers, each in its slot; 0 where there is none. A loop over many words has these tables made
-// once, and does without a call.
+// The keywords of at most eight bytes as numbers, each in its slot; 0 where there is none. A loop
+// over many words has these tables made once, and does without a call.
 pub fn keyword_numbers() -> [u64; 64]
     ensures { λ r. ⌜ r ≡ bySlot (λ slot. rowIn slot keywords .1) ⌝ }
 {

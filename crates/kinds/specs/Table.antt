@@ -148,7 +148,8 @@ kindNamed word (row ∷ rows) = cond (same word (row .name)) (row .kind) (kindNa
 abbrev pub identToken : List ℕ → ℕ
 identToken word = kindNamed word keywords
 
--- the row of a kind; a number that is no kind has the class of those that are no literal, operator or keyword, and no name
+-- the row of a kind; a number that is no kind has the class of those that are no literal, operator
+-- or keyword, and no name
 unfoldable pub rowOf : ℕ → List Row → Row
 rowOf k [] = other k ""
 rowOf k (row ∷ rows) = cond (eqb k (row .kind)) row (rowOf k rows)
@@ -171,6 +172,7 @@ isOperator k = elim (classOf k) [ Literal ↦ false | Operator ↦ true | Keywor
 abbrev pub isKeyword : ℕ → Bool
 isKeyword k = elim (classOf k) [ Literal ↦ false | Operator ↦ false | Keyword ↦ true | Other ↦ false ]
 
--- of words and operators: "The mark is set after IDENT, .. `++ -- ) ] }`, break, continue, fallthrough, return."
+-- of words and operators: "The mark is set after IDENT, .. `++ -- ) ] }`, break, continue,
+-- fallthrough, return."
 abbrev pub setsMark : ℕ → Bool
 setsMark kind = among kind (IDENT ∷ INC ∷ DEC ∷ RPAREN ∷ RBRACK ∷ RBRACE ∷ BREAK ∷ CONTINUE ∷ FALLTHROUGH ∷ RETURN ∷ [])

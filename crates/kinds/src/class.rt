@@ -44,7 +44,8 @@ pub fn precedence(kind: u8) -> usize
     }
 }
 
-// The kinds after which the mark is set, by a bit for each: those below 64, and those from there on.
+// The kinds after which the mark is set, by a bit for each: those below 64, and those from there
+// on.
 const LOW_MARKS: u64 = 1 << IDENT
     | 1 << INC
     | 1 << DEC
@@ -56,8 +57,9 @@ const LOW_MARKS: u64 = 1 << IDENT
 
 const HIGH_MARKS: u64 = 1 << (FALLTHROUGH - 64) | 1 << (RETURN - 64);
 
-// Is the mark for an inserted semicolon set after a word or an operator of this kind? After a number, a string or a character it always is.
-// A bit tells it, so that the processor has no branch to foresee.
+// Is the mark for an inserted semicolon set after a word or an operator of this kind? After a
+// number, a string or a character it always is. A bit tells it, so that the processor has no branch
+// to predict.
 pub fn sets_mark(kind: u8) -> bool
     ensures { λ r. ⌜ r ≡ setsMark kind ⌝ }
 {

@@ -18,7 +18,8 @@ use Rattle.lexer.specs.Words.{lexWord, lexNumber}
 use Rattle.lexer.specs.Quotes.{lexString, lexChar, lexRaw}
 use Rattle.lexer.specs.Comments.{lexComment}
 
--- "`..` without a third dot, or any other single character: ILLEGAL, mark kept. No error is recorded."
+-- "`..` without a third dot, or any other single character: ILLEGAL, mark kept. No error is
+-- recorded."
 abbrev pub lexIllegal : Bool → ℕ → List Char → Lexeme
 lexIllegal mark n r = shown ILLEGAL n (encoded (take n r)) 0 mark
 
@@ -51,7 +52,8 @@ lexBy mark c r =
     (cond (eqb c (code "'")) (lexChar r)
     (cond (eqb c (code "`")) (lexRaw r) (lexOther mark c r))))))
 
--- after the blanks; "LF, or the end, with "now" set: an inserted SEMICOLON .. At the end without it: EOF."
+-- after the blanks; "LF, or the end, with "now" set: an inserted SEMICOLON .. At the end without
+-- it: EOF."
 unfoldable pub lexToken : Bool → List Char → Lexeme
 lexToken mark [] = cond mark insertedSemicolon (bare EOF 0 false)
 lexToken mark (c ∷ r) = lexBy mark (c .code) (c ∷ r)

@@ -1,4 +1,4 @@
--- What one scan reads, and nothing of where it stands.
+-- What one scan reads, without where it is in the text.
 use Prim.Native.Nat.{ℕ, _+_}
 use mathlib.Core.Bool.{Bool, true, false}
 use mathlib.Core.List.{List, []}
@@ -11,7 +11,7 @@ pub record Lexeme : Type 0 where
   pub skipped : ℕ
   pub len : ℕ
   pub kind : ℕ
-  -- a semicolon that does not stand in the text
+  -- a semicolon that is not in the text
   pub inserted : Bool
   -- text and value in bytes, and the code point of a CHAR
   pub text : List ℕ

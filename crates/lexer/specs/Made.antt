@@ -18,7 +18,7 @@ use Rattle.lexer.specs.declared.lexed.Value.{Value}
 use Rattle.lexer.specs.declared.lexed.Value.the-variants.{Empty as NoValue}
 use Rattle.lexer.specs.declared.lexed.Lexed.{Lexed}
 
--- a byte stands there, which is no line feed, no digit and no backquote
+-- there is a byte there, which is no line feed, no digit and no backquote
 abbrev pub StartsOther : List ℕ → ℕ → Type 0
 StartsOther s at = (at < length s) × (eqb (getD s at 0) (code "\n") ≡ false) × (isDecimal (getD s at 0) ≡ false) × (eqb (getD s at 0) (code "`") ≡ false)
 

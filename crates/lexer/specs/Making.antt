@@ -28,8 +28,8 @@ isNumber cs = isDecimal (peek cs) || (eqb (peek cs) (code ".") && isDecimal (pee
 abbrev pub isRaw : List Char → Bool
 isRaw cs = eqb (peek cs) (code "`")
 
--- the spelling of a number: the first of these that makes its text of the bytes read. Of `1E5` a prefix in lower case would make the same, so the
--- exponent stands before it
+-- the spelling of a number: the first of these that makes its text of the bytes read. Of `1E5` a
+-- prefix in lower case would make the same, so the exponent comes before it
 abbrev pub spellingOf : List ℕ → List ℕ → Spelling
 spellingOf text bytes =
     cond (same text (numberText Same bytes)) Same

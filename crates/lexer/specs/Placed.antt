@@ -1,4 +1,5 @@
--- What is said of a token that was read at a place of a source: the lexeme, and how it stands in the bytes.
+-- What is said of a token that was read at a place of a source: the lexeme, and how it lies in the
+-- bytes.
 use Prim.Native.Nat.{ℕ, _+_, _*_, _-_}
 use Prim.Native.Char.{code}
 use mathlib.Core.Bool.{Bool, false, cond, not}
@@ -59,7 +60,8 @@ pub record Placed : Type 0 where
 abbrev pub valueRead : Lexeme → List ℕ → List ℕ
 valueRead x bytes = cond (eqb (x .kind) STRING) (take (length bytes - cond (eqb (x .error) OPEN-RAW-STRING) 1 2) (drop 1 bytes)) []
 
--- "Where the text equals the bytes read .. it is shown from the source." A token that has none shows none
+-- "Where the text equals the bytes read .. it is shown from the source." A token that has none
+-- shows none
 abbrev pub textDiffersIn : List ℕ → List ℕ → Bool
 textDiffersIn [] bytes = false
 textDiffersIn (b ∷ text) bytes = not (same (b ∷ text) bytes)
@@ -86,7 +88,8 @@ placed s at x =
     let cs = take (x .len) (chars (drop at s)) in
     placedIn at x cs (take (widths cs) (drop at s))
 
--- the code counts a stray byte once; where text or value differ from the source's bytes it is written in three
+-- the code counts a stray byte once; where text or value differ from the source's bytes it is
+-- written in three
 abbrev pub lengthOf : ℕ → ℕ → Bool → ℕ
 lengthOf bytes strays differs = bytes + cond differs (2 * strays) 0
 

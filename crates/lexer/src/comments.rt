@@ -14,7 +14,8 @@ ghost use Rattle.lexer.specs.Comments.{comment, lexComment};
 ghost use Rattle.lexer.specs.Placed.{said, placed};
 ghost use Rattle.lexer.specs.Made.{code, spannedAs};
 
-// A token at a place by its body, which stands after `opening` characters; its text is without CR, and its value is not counted yet.
+// A token at a place by its body, which starts after `opening` characters; its text is without CR,
+// and its value is not counted yet.
 fn spanned(
     b: spans::Body,
     at: usize,
@@ -98,7 +99,8 @@ fn general_comment(src: &[u8], at: usize, mark: bool) -> Lexed
     x
 }
 
-// The comment at a place, by the byte after its slash. One that ends the line is an inserted semicolon where the mark is set.
+// The comment at a place, by the byte after its slash. One that ends the line is an inserted
+// semicolon where the mark is set.
 pub(crate) fn lex_comment(src: &[u8], at: usize, second: u8, mark: bool) -> Lexed
     requires { ⌜ (getD (now src) at 0 ≡ code "/") × (getD (now src) (at + 1) 0 ≡ second) × ((second ≡ code "/") ⊎ (second ≡ code "*")) ⌝ }
     ensures { λ r. ⌜ said (now (src .entry)) at r ≡ placed (now (src .entry)) at (lexComment mark (chars (drop at (now (src .entry))))) ⌝ }

@@ -15,7 +15,8 @@ pub enum Text {
     WithLf,
 }
 
-// How the value of a token is made: there is none, or it is that of an interpreted or of a raw string.
+// How the value of a token is made: there is none, or it is that of an interpreted or of a raw
+// string.
 pub enum Value {
     Empty,
     Interpreted,
@@ -31,7 +32,7 @@ pub struct Lexed {
     pub lfs: usize,
     pub strays: usize,
     pub kind: u8,
-    // a semicolon that does not stand in the text
+    // a semicolon that is not in the text
     pub inserted: bool,
     // the pending mark that it leaves
     pub mark: bool,
@@ -41,8 +42,8 @@ pub struct Lexed {
     pub code: u32,
     pub text: Text,
     pub value: Value,
-    // how many bytes text and value have; a stray byte in one that differs from the source's bytes counts once, though it is written in three:
-    // so the numbers always fit
+    // how many bytes text and value have; a stray byte in one that differs from the source's bytes
+    // counts once, though it is written in three: so the numbers always fit
     pub text_bytes: usize,
     pub value_bytes: usize,
     // are they other bytes than those of the source?
@@ -92,7 +93,7 @@ pub(crate) fn shown(kind: u8, at: usize, end: usize, mark: bool) -> Lexed
     x
 }
 
-// A semicolon that does not stand in the text.
+// A semicolon that is not in the text.
 pub(crate) fn inserted_semicolon(at: usize) -> Lexed
     ensures { λ r. ⌜ r ≡ insertedAt at ⌝ }
 {

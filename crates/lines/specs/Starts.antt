@@ -1,4 +1,5 @@
--- The line starts that reading records: "Each LF read records its offset + 1 if that is above the last start and below the size."
+-- The line starts that reading records: "Each LF read records its offset + 1 if that is above the
+-- last start and below the size."
 use Prim.Native.Nat.{ℕ, suc}
 use mathlib.Core.Bool.{cond, _&&_}
 use mathlib.Core.List.{List, [], _∷_, _++_}

@@ -9,7 +9,8 @@ ghost use lib.Seq.{sets};
 ghost use Rattle.utf8.specs.Chars.{chars};
 ghost use Rattle.lines.specs.Starts.{startsRead};
 
-// Writes the starts that the characters at a place give, so many of them, to the table from an index on; those past its end are not written.
+// Writes the starts that the characters at a place give, so many of them, to the table from an
+// index on; those past its end are not written.
 pub fn write_starts(
     src: &[u8],
     at: usize,

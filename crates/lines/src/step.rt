@@ -1,4 +1,5 @@
-// What counting and writing line starts have in common: up to where the characters are read, and the next one.
+// What counting and writing line starts have in common: up to where the characters are read, and
+// the next one.
 ghost use mathlib.Core.Path.{_≡_};
 ghost use Prim.Native.Nat.{_+_, _-_, _<_, min};
 ghost use lib.ListN.{length};
@@ -11,7 +12,8 @@ fn least(a: usize, b: usize) -> usize
     if a < b { a } else { b }
 }
 
-// The offset before which a character can give a start: one that is below the size. So many characters are read from an offset on.
+// The offset before which a character can give a start: one that is below the size. So many
+// characters are read from an offset on.
 pub(crate) fn end_offset(count: usize, offset: usize, size: usize) -> usize
     ensures { λ r. ⌜ r ≡ offset + min count (size - 1 - offset) ⌝ }
 {

@@ -1,4 +1,5 @@
--- Numbers, from the characters that are left: how many are read, kind, error, and how the text differs from what was read.
+-- Numbers, from the characters that are left: how many are read, kind, error, and how the text
+-- differs from what was read.
 use Prim.Native.Nat.{ℕ, _+_}
 use Prim.Native.Char.{code}
 use mathlib.Core.Bool.{false, cond, _&&_, _||_}
@@ -65,7 +66,8 @@ decimal r =
     cond (digitRun 10 false r .misplaced) (illegal MISPLACED-UNDERSCORE (digitRun 10 false r .len) AsRead)
     (afterChars (digitRun 10 false r .len) (decimalRest (drop (digitRun 10 false r .len) r)))
 
--- the digits of a prefixed number, and what stands next: there is a digit, and a binary or octal number ends before no decimal one
+-- the digits of a prefixed number, and the character after them: an error where there is no digit,
+-- or a decimal digit follows a binary or octal number
 abbrev pub prefixedDigits : ℕ → ℕ → Spelling → Run → ℕ → Numeral
 prefixedDigits base error s d next =
     cond (d .misplaced) (illegal MISPLACED-UNDERSCORE (d .len) s)

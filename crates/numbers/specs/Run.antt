@@ -1,4 +1,5 @@
--- Runs of digits: "An underscore stands between digits or after a prefix, never doubled, never last."
+-- Runs of digits: "An underscore stands between digits or after a prefix, never doubled, never
+-- last."
 use Prim.Native.Nat.{ℕ, suc}
 use Prim.Native.Char.{code}
 use mathlib.Core.Bool.{Bool, true, false, cond}
@@ -20,14 +21,15 @@ endOfRun misplaced = record { len = 0; misplaced = misplaced }
 abbrev pub longerRun : Run → Run
 longerRun d = record { len = suc (d .len); misplaced = d .misplaced }
 
--- the longest run of digits below the base and single underscores; `under`: the character before it is an underscore
+-- the longest run of digits below the base and single underscores; `under`: the character before it
+-- is an underscore
 unfoldable pub digitRun : ℕ → Bool → List Char → Run
 digitRun base under [] = endOfRun under
 digitRun base under (c ∷ r) =
     cond (ltb (digitVal (c .code)) base) (longerRun (digitRun base false r))
     (cond (eqb (c .code) (code "_")) (cond under (endOfRun true) (longerRun (digitRun base true r))) (endOfRun under))
 
--- the same where no underscore may stand first
+-- the same where no underscore may come first
 unfoldable pub strictRun : ℕ → List Char → Run
 strictRun base [] = endOfRun false
 strictRun base (c ∷ r) = cond (eqb (c .code) (code "_")) (endOfRun true) (digitRun base false (c ∷ r))

@@ -1,4 +1,5 @@
--- The text of a number: "Prefixes are written lower case in the text, and so is the exponent's e. A 0 followed by a digit is octal, and its text gains an o".
+-- The text of a number: "Prefixes are written lower case in the text, and so is the exponent's e. A
+-- 0 followed by a digit is octal, and its text gains an o".
 use Prim.Native.Nat.{ℕ, _+_}
 use Prim.Native.Char.{code}
 use mathlib.Core.Bool.{cond}
@@ -8,7 +9,7 @@ use Rattle.basics.specs.Between.{between}
 use Rattle.numbers.specs.declared.Spelling.{Spelling}
 use Rattle.numbers.specs.declared.Spelling.the-variants.{AsRead, LowerPrefix, OctalPrefix, LowerExponent}
 
--- a letter in lower case, which stands 32 codes behind its upper case
+-- a letter in lower case, which is 32 codes after its upper case
 abbrev pub lower : ℕ → ℕ
 lower b = cond (between (code "A") b (code "Z")) (b + 32) b
 

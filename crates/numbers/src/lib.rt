@@ -137,7 +137,8 @@ fn goes_on(src: &[u8], at: usize, base: u8) -> bool
     false
 }
 
-// After a prefix: digits of the base, whose own error the number has where there is none, or a decimal digit follows.
+// After a prefix: digits of the base. The number has the error of its base where there is no digit,
+// or a decimal digit follows.
 fn scan_prefixed(src: &[u8], at: usize, base: u8, error: u8, spelling: Spelling) -> Number
     requires { ⌜ base ≤ 16 ⌝ }
     ensures { λ r. ⌜ r ≡ numberAt at (prefixed base error spelling (chars (drop at (now (src .entry))))) ⌝ }

@@ -7,7 +7,8 @@ ghost use Rattle.utf8.specs.Chars.{chars};
 ghost use Rattle.numbers.specs.Run.{digitRun, strictRun};
 ghost use Rattle.numbers.specs.Steps.{digitsAt};
 
-// A run of digits and underscores: the place after it, and whether an underscore is misplaced where it stopped.
+// A run of digits and underscores: the place after it, and whether an underscore is misplaced where
+// it stopped.
 pub(crate) struct Digits {
     pub(crate) end: usize,
     pub(crate) misplaced: bool,
@@ -48,7 +49,7 @@ pub(crate) fn scan_digits(src: &[u8], at: usize, base: u8) -> Digits
     }
 }
 
-// The same where no underscore may stand first.
+// The same where no underscore may come first.
 pub(crate) fn scan_strict_digits(src: &[u8], at: usize, base: u8) -> Digits
     requires { ⌜ base ≤ 16 ⌝ }
     ensures { λ r. ⌜ r ≡ digitsAt at (strictRun base (chars (drop at (now (src .entry))))) ⌝ }

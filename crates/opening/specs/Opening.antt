@@ -23,7 +23,8 @@ pub record Begun : Type 0 where
   pub state : State
   pub chars : ℕ
 
--- what opening leaves in the table, what it comes to, and the place that refusal 1, and it alone, carries
+-- what opening leaves in the table, what it comes to, and the place that refusal 1, and it alone,
+-- carries
 pub record Opening : Type 0 where
   pub table : List ℕ
   pub outcome : Outcome Begun

@@ -3,8 +3,8 @@ use state::State;
 ghost use mathlib.Core.Path.{_≡_};
 ghost use Rattle.opening.specs.Opening.{begunOf, openOf, outcomeOf, placeOf};
 
-// The first state and the number of characters; or the number of the refusal, and for bytes that are not UTF-8 the place of one that
-// belongs to no well-formed character.
+// The first state and the number of characters; or the number of the refusal, and for bytes that
+// are not UTF-8 the place of one that belongs to no well-formed character.
 pub enum Opened {
     Ready { state: State, chars: usize },
     NotUtf8 { place: usize },

@@ -27,7 +27,7 @@ fn scan_switch2(b: u8, one: u8, assign: u8) -> Operator
     op(one, 1)
 }
 
-// The same, where another byte ch may stand there.
+// The same, where another byte ch may be there.
 fn scan_switch3(b: u8, one: u8, assign: u8, ch: u8, two: u8) -> Operator
     ensures { λ r. ⌜ r ≡ switch3 b one assign ch two ⌝ }
 {
@@ -40,7 +40,8 @@ fn scan_switch3(b: u8, one: u8, assign: u8, ch: u8, two: u8) -> Operator
     op(one, 1)
 }
 
-// Where the second byte is ch, a third byte c may follow: = or nothing. Else the operator is another.
+// Where the second byte is ch, a third byte c may follow: = or nothing. Else the operator is
+// another.
 fn scan_switch4(b: u8, c: u8, ch: u8, two: u8, assign: u8, other: Operator) -> Operator
     ensures { λ r. ⌜ r ≡ switch4 b c ch two assign other ⌝ }
 {

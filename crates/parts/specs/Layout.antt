@@ -22,7 +22,7 @@ partIn n at = record { area = not (eqb (getD n at 0) 0); start = getD n (at + 1)
 abbrev pub tokenWidth : ℕ
 tokenWidth = 10
 
--- the text of a token stands in its numbers from 4 on, the value from 7 on
+-- the text of a token is in its numbers from 4 on, the value from 7 on
 abbrev pub textAt : ℕ
 textAt = 4
 

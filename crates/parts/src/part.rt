@@ -2,7 +2,7 @@
 ghost use mathlib.Core.Path.{_≡_};
 ghost use Rattle.parts.specs.Shown.{shownIn, shownOf};
 
-// The part of the text area, or of the source, in which a text or a value stands.
+// The part of the text area, or of the source, that a text or a value is in.
 pub struct Part {
     pub area: bool,
     pub start: usize,
@@ -25,7 +25,8 @@ fn part_of<'a>(buffer: &'a [u8], part: Part, refusal: &mut u8) -> &'a [u8]
     &buffer[..0]
 }
 
-// The text or the value that a token shows, by its part, and 0; or nothing, and the number of the refusal.
+// The text or the value that a token shows, by its part, and 0; or nothing, and the number of the
+// refusal.
 pub fn shown<'a>(src: &'a [u8], area: &'a [u8], part: Part, refusal: &mut u8) -> &'a [u8]
     ensures { λ r. ⌜ record { bytes = now r; refusal = now (refusal .exit) } ≡ shownOf (now (src .entry)) (now (area .entry)) part ⌝ }
 {

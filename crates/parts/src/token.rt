@@ -6,7 +6,7 @@ ghost use Rattle.parts.specs.Text.{textShown, valueShown};
 
 pub struct Token {
     pub kind: u8,
-    // a semicolon that does not stand in the text
+    // a semicolon that is not in the text
     pub inserted: bool,
     pub position: usize,
     // the code point of a CHAR
@@ -23,7 +23,8 @@ impl Token {
 
 // Give these two the source that was scanned, and the area as the token's own scan left it.
 
-// The text of a token, and 0; or nothing, and the number of the refusal. A scan gives operators, keywords and EOF an empty one.
+// The text of a token, and 0; or nothing, and the number of the refusal. A scan gives operators,
+// keywords and EOF an empty one.
 pub fn text<'a>(src: &'a [u8], area: &'a [u8], token: Token, refusal: &mut u8) -> &'a [u8]
     ensures { λ r. ⌜ record { bytes = now r; refusal = now (refusal .exit) } ≡ textShown (now (src .entry)) (now (area .entry)) token ⌝ }
 {

@@ -27,7 +27,8 @@ columnOf starts o = o - startOf starts o + 1
 abbrev pub positionAt : List ℕ → ℕ → Position
 positionAt starts o = record { offset = o; line = lineOf starts o; column = columnOf starts o }
 
--- "if that is above the last start and below the size": whether a line start that was read is recorded
+-- "if that is above the last start and below the size": whether a line start that was read is
+-- recorded
 abbrev pub isRecorded : ℕ → ℕ → ℕ → Bool
 isRecorded last size start = ltb last start && ltb start size
 

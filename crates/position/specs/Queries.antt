@@ -1,4 +1,5 @@
--- The position of an offset, the place of a position and the start of a line, each with the refusals that a query checks: DOES-NOT-FIT, then NO-POSITION or NO-LINE.
+-- The position of an offset, the place of a position and the start of a line, each with the
+-- refusals that a query checks: DOES-NOT-FIT, then NO-POSITION or NO-LINE.
 use Prim.Native.Nat.{ℕ, _+_, _-_}
 use mathlib.Core.Bool.{cond, _&&_}
 use mathlib.Core.List.{List}
@@ -22,7 +23,8 @@ positionOf f table p =
     (cond (between (f .base) p (f .base + f .size)) (gave (positionAt (starts f table) (p - f .base))) (refused NO-POSITION))
     (refused DOES-NOT-FIT)
 
--- the position at which a line starts, if that is not above the offset o, up to which the text has been read
+-- the position at which a line starts, if that is not above the offset o, up to which the text has
+-- been read
 unfoldable pub lineStartOf : File → List ℕ → ℕ → ℕ → Outcome ℕ
 lineStartOf f table line o =
     cond (fitting f table && leb o (f .size))

@@ -138,7 +138,8 @@ impl File {
         Answer::Gave(position)
     }
 
-    // The number of lines after a line start was read: it is recorded if it is above the last one and below the size.
+    // The number of lines after a line start was read: it is recorded if it is above the last one
+    // and below the size.
     pub fn add_line(self, table: &mut [usize], offset: usize) -> Answer
         ensures { λ r. ⌜ record { table = now (table .exit); outcome = answerOutcome r } ≡ addLine self (now (table .entry)) offset ⌝ }
     {

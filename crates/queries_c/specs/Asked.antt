@@ -18,7 +18,8 @@ abbrev pub answeredBy : {A : Type 0} → (A → List ℕ) → Outcome A → List
 answeredBy numbersOf (gave x) answer = record { refusal = 0; answer = sets answer 0 (numbersOf x) }
 answeredBy numbersOf (refused number) answer = record { refusal = number; answer = answer }
 
--- a question about a state or a token, which is `given` in `width` numbers, with an answer of n numbers: a slice too short is refused by 6
+-- a question about a state or a token, which is `given` in `width` numbers, with an answer of n
+-- numbers: a slice too short is refused by 6
 abbrev pub asked : {A : Type 0} → ℕ → List ℕ → ℕ → (A → List ℕ) → Outcome A → List ℕ → Answered
 asked width given n numbersOf outcome answer =
     cond (tooShort (length given) width (length answer) n)

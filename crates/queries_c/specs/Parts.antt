@@ -1,4 +1,5 @@
--- The exported functions that answer a token's text and value, as parts of the source or of the text area.
+-- The exported functions that answer a token's text and value, as parts of the source or of the
+-- text area.
 use Prim.Native.Nat.{ℕ}
 use mathlib.Core.Bool.{cond}
 use mathlib.Core.List.{List}
@@ -14,7 +15,7 @@ use Rattle.queries_c.specs.Asked.{Answered, asked}
 abbrev pub inBuffer : List ℕ → List ℕ → Part → Outcome Part
 inBuffer src area p = cond (eqb (shownOf src area p .refusal) 0) (gave p) (refused DOES-NOT-FIT)
 
--- the part that stands at an index among the numbers of a token
+-- the part at an index among the numbers of a token
 abbrev pub partAt : ℕ → List ℕ → List ℕ → List ℕ → List ℕ → Answered
 partAt at src area token answer = asked tokenWidth token partWidth partNumbers (inBuffer src area (partIn token at)) answer
 

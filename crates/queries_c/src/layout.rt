@@ -15,12 +15,13 @@ pub(crate) const ERROR: usize = 4;
 
 pub(crate) const PART: usize = 3;
 
-// Where the parts of text and value stand among the numbers of a token.
+// Where the parts of text and value are among the numbers of a token.
 pub(crate) const TEXT: usize = 4;
 
 pub(crate) const VALUE: usize = 7;
 
-// The part that three numbers from an index on are; any number but 0 says that it is one of the area.
+// The part that three numbers from an index on are; any number but 0 says that it is one of the
+// area.
 pub(crate) fn part_in(n: &[usize], at: usize) -> Part
     requires { ⌜ at + partWidth ≤ length (now n) ⌝ }
     ensures { λ r. ⌜ r ≡ partIn (now (n .entry)) at ⌝ }

@@ -1,5 +1,6 @@
-// The exported function that opens a source. It answers the number of its refusal, or 0, and writes what it gives to lent slices. A slice
-// that is too short for a state or an answer is refused by 6, and nothing is written.
+// The exported function that opens a source. It answers the number of its refusal, or 0, and writes
+// what it gives to lent slices. A slice that is too short for a state or an answer is refused by 6,
+// and nothing is written.
 use opening::Opened;
 use refusal::too_short;
 use state::State;
@@ -7,7 +8,8 @@ use state::put_state;
 ghost use mathlib.Core.Path.{_≡_};
 ghost use Rattle.queries_c.specs.Open.{openNumbers};
 
-// The first state goes to `state`, the number of characters to `answer`; for refusal 1 the place of the bad byte goes there.
+// The first state goes to `state`, the number of characters to `answer`; for refusal 1 the place of
+// the bad byte goes there.
 #[no_mangle]
 pub extern "C" fn scanner_open(
     src: &[u8],

@@ -1,5 +1,6 @@
-// The exported questions about the state that the first seven numbers of a slice are. Each answers the number of its refusal, or 0, and
-// writes what it gives to a lent slice. A slice that is too short for a state or an answer is refused by 6, and nothing is written.
+// The exported questions about the state that the first seven numbers of a slice are. Each answers
+// the number of its refusal, or 0, and writes what it gives to a lent slice. A slice that is too
+// short for a state or an answer is refused by 6, and nothing is written.
 use crate::layout::ERROR;
 use crate::layout::POSITION;
 use crate::layout::put_error;
@@ -60,7 +61,8 @@ pub extern "C" fn scanner_line_start(
     }
 }
 
-// The offset, line, column and number of the error at an index, from 0; four zeros where there is none.
+// The offset, line, column and number of the error at an index, from 0; four zeros where there is
+// none.
 #[no_mangle]
 pub extern "C" fn scanner_error(
     state: &[usize],

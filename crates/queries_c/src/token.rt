@@ -1,6 +1,7 @@
-// The exported functions for the text and the value of the token that the first ten numbers of a slice are. Each answers the part of the
-// source or of the text area that it is, and the number of its refusal, or 0. A slice that is too short for a token or an answer is refused
-// by 6, and nothing is written.
+// The exported functions for the text and the value of the token that the first ten numbers of a
+// slice are. Each answers the part of the source or of the text area that it is, and the number of
+// its refusal, or 0. A slice that is too short for a token or an answer is refused by 6, and
+// nothing is written.
 use crate::layout::PART;
 use crate::layout::TEXT;
 use crate::layout::VALUE;
@@ -14,7 +15,7 @@ ghost use Prim.Native.Nat.{_+_, _≤_};
 ghost use Rattle.parts.specs.Layout.{partWidth, tokenWidth};
 ghost use Rattle.queries_c.specs.Parts.{partAt, textNumbers, valueNumbers};
 
-// The part that stands at an index among the numbers of a token, if it lies in its buffer.
+// The part at an index among the numbers of a token, if it lies in its buffer.
 fn answer_part<'a>(
     src: &'a [u8],
     area: &'a [u8],
@@ -39,7 +40,8 @@ fn answer_part<'a>(
     0
 }
 
-// The text of a token. The source is the one that was scanned, the area as the token's own scan left it.
+// The text of a token. The source is the one that was scanned, the area as the token's own scan
+// left it.
 #[no_mangle]
 pub extern "C" fn scanner_text<'a>(
     src: &'a [u8],

@@ -46,7 +46,8 @@ plain c b =
       strays = cond (isStray c) 1 0 + b .strays;
     }
 
--- an escape of n characters before the rest; one that gives no character ends the literal with its error
+-- an escape of n characters before the rest; one that gives no character ends the literal with its
+-- error
 abbrev pub escape : ℕ → Meaning → Body → Body
 escape n (noCharacter error) b = ends n false error
 escape n (character code byte) b =
@@ -61,7 +62,8 @@ escape n (character code byte) b =
       strays = b .strays;
     }
 
--- the body in a literal with the quote given, after k characters that belong to an escape; an error where an LF or the end stands in place of the closing quote
+-- the body in a literal with the quote given, after k characters that belong to an escape; an error
+-- where an LF or the end comes in place of the closing quote
 unfoldable pub bodyFrom : ℕ → ℕ → List Char → Body
 bodyFrom quote k [] = ends 0 false OPEN-QUOTE
 bodyFrom quote zero (c ∷ r) =
@@ -74,7 +76,8 @@ bodyFrom quote (suc k) (c ∷ r) = bodyFrom quote k r
 abbrev pub body : ℕ → List Char → Body
 body quote r = bodyFrom quote 0 r
 
--- a body of the characters r at a place, as the code gives it; of a stray byte's U+FFFD it counts one byte
+-- a body of the characters r at a place, as the code gives it; of a stray byte's U+FFFD it counts
+-- one byte
 unfoldable pub bodyAt : ℕ → List Char → Body → Quoted
 bodyAt at r b =
     record {

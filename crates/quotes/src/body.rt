@@ -12,7 +12,8 @@ ghost use Rattle.quotes.specs.Literal.{doubleQuote, singleQuote};
 ghost use Rattle.quotes.specs.Plain.{isPlainByte, plainLen};
 ghost use Rattle.quotes.specs.Steps.{stopMark, emptyBody, added, bodyEnd, errorOf, escapePiece, charPiece, plainPiece};
 
-// A piece of the body: an escape, a character, or a run of characters that are written as themselves.
+// A piece of the body: an escape, a character, or a run of characters that are written as
+// themselves.
 struct Piece {
     // how many characters were read, how many the literal has by them, and the code of the first
     chars: usize,
@@ -20,7 +21,8 @@ struct Piece {
     code: u32,
     // is it an escape
     escaped: bool,
-    // how many of the characters are stray bytes, and how many bytes the value has by them, each stray byte counted as one
+    // how many of the characters are stray bytes, and how many bytes the value has by them, each
+    // stray byte counted as one
     strays: usize,
     bytes: usize,
 }
@@ -149,7 +151,8 @@ fn is_plain(b: u8, quote: u8) -> bool
     b < 128
 }
 
-// The place of the first byte from a place on that is the quote, a backslash, a line feed or above 127, or the end; byte by byte.
+// The place of the first byte from a place on that is the quote, a backslash, a line feed or above
+// 127, or the end; byte by byte.
 fn near_end(src: &[u8], at: usize, quote: u8) -> usize
     ensures { λ r. ⌜ r ≡ at + plainLen quote (drop at (now (src .entry))) ⌝ }
 {
@@ -163,8 +166,9 @@ fn near_end(src: &[u8], at: usize, quote: u8) -> usize
     p
 }
 
-// For each of eight bytes 0x80 where it is the quote, a backslash, a line feed or above 127, else 0. A test's answer is the top bit of
-// each byte: that of a sum with the byte's low seven bits, which never reaches into the next byte.
+// For each of eight bytes 0x80 where it is the quote, a backslash, a line feed or above 127, else
+// 0. A test's answer is the top bit of each byte: that of a sum with the byte's low seven bits,
+// which never reaches into the next byte.
 fn stops(w: u64, quote: u8) -> u64
     requires { ⌜ quote < 128 ⌝ }
     ensures { λ r. ⌜ r ≡ lanes 8 (stopMark quote) w ⌝ }
@@ -244,7 +248,8 @@ pub fn string_body(src: &[u8], at: usize) -> Quoted
     body_at(src, at, b'"')
 }
 
-// The place of the first byte from a place on that is no plain character of a string: a quote, a backslash, a line feed, one above 127, or the end.
+// The place of the first byte from a place on that is no plain character of a string: a quote, a
+// backslash, a line feed, one above 127, or the end.
 pub fn plain_string(src: &[u8], at: usize) -> usize
     ensures { λ r. ⌜ r ≡ at + plainLen doubleQuote (drop at (now (src .entry))) ⌝ }
 {

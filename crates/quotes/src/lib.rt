@@ -20,6 +20,7 @@ pub struct Quoted {
     pub escaped: bool,
     // how many of them are stray bytes
     pub strays: usize,
-    // how many bytes its value has, each stray byte counted as one, though its U+FFFD has three: so the number always fits
+    // how many bytes its value has, each stray byte counted as one, though its U+FFFD has three: so
+    // the number always fits
     pub bytes: usize,
 }

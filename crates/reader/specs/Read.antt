@@ -1,4 +1,4 @@
--- Where a reader stands after it has read.
+-- Where a reader is after it has read.
 use Prim.Native.Nat.{ℕ, _+_}
 use mathlib.Core.List.{List}
 use Rattle.utf8.specs.Chars.{charAt}

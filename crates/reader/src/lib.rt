@@ -1,5 +1,5 @@
-// A thin reader: it holds the source and a place in it, and gives the next character. The functions over the struct are thin;
-// the work is done by functions that take the source itself.
+// A thin reader: it holds the source and a place in it, and gives the next character. The functions
+// over the struct are thin; the work is done by functions that take the source itself.
 use utf8::Char;
 ghost use mathlib.Core.Path.{_≡_};
 ghost use Rattle.utf8.specs.Chars.{charAt};
@@ -30,7 +30,7 @@ pub fn peek_char<'a>(r: Reader<'a>) -> Char
     utf8::char_at(r.src, r.place)
 }
 
-// The reader behind the next character.
+// The reader after the next character.
 pub fn read_char<'a>(r: Reader<'a>) -> Reader<'a>
     ensures { λ q. ⌜ (q .src ≡ r .entry .src) × (q .place ≡ readPlace (now (r .entry .src)) (r .entry .place)) ⌝ }
 {
@@ -53,7 +53,7 @@ pub fn char_from(src: &[u8], at: usize) -> Char
     peek_char(reader_at(src, at))
 }
 
-// Where a reader stands that has read the character at a place.
+// Where a reader is after it has read the character at a place.
 pub fn place_after(src: &[u8], at: usize) -> usize
     ensures { λ n. ⌜ n ≡ readPlace (now (src .entry)) at ⌝ }
 {

@@ -32,7 +32,8 @@ unfoldable pub moveError : ℕ → ℕ → Error → Error
 moveError characters lines e =
     record { offset = characters + e .offset; line = lines + e .line; column = e .column; number = e .number }
 
--- t₁ and t₂ are joined in a file with this base and size; the second run's file follows t₁, with the rest of the size
+-- t₁ and t₂ are joined in a file with this base and size; the second run's file follows t₁, with
+-- the rest of the size
 pub record Joined (lex : Lexer) (base size : ℕ) (t₁ t₂ : List Char) (a : ℕ) : Type 0 where
   -- before the first run's EOF the joined run gives the first run's tokens
   pub first-token : (i : ℕ) → i < a → tokenAt lex base size (opened (t₁ ++ t₂)) i ≡ tokenAt lex base size (opened t₁) i
@@ -40,12 +41,15 @@ pub record Joined (lex : Lexer) (base size : ℕ) (t₁ t₂ : List Char) (a : �
   pub first-lines : (i : ℕ) → i ≤ a → run lex size (opened (t₁ ++ t₂)) i .lines ≡ run lex size (opened t₁) i .lines
   -- and the same errors
   pub first-errors : (i : ℕ) → i ≤ a → run lex size (opened (t₁ ++ t₂)) i .errors ≡ run lex size (opened t₁) i .errors
-  -- from there on, in place of that EOF, it gives the second run's tokens at the same positions, with the first text's bytes before them
+  -- from there on, in place of that EOF, it gives the second run's tokens at the same positions,
+  -- with the first text's bytes before them
   pub second-token : (j : ℕ) → tokenAt lex base size (opened (t₁ ++ t₂)) (a + j)
       ≡ move (widths t₁) (tokenAt lex (base + length t₁) (size - length t₁) (opened t₂) j)
-  -- its line starts are the first run's and then the second's without its first, each raised by the first text's characters
+  -- its line starts are the first run's and then the second's without its first, each raised by the
+  -- first text's characters
   pub second-lines : (j : ℕ) → 0 < j → run lex size (opened (t₁ ++ t₂)) (a + j) .lines
       ≡ run lex size (opened t₁) (suc a) .lines ++ map (λ x. length t₁ + x) (drop 1 (run lex (size - length t₁) (opened t₂) j .lines))
-  -- its errors are the first run's and then the second's, each moved on by the first text's characters and line feeds
+  -- its errors are the first run's and then the second's, each moved on by the first text's
+  -- characters and line feeds
   pub second-errors : (j : ℕ) → 0 < j → run lex size (opened (t₁ ++ t₂)) (a + j) .errors
       ≡ run lex size (opened t₁) (suc a) .errors ++ map (moveError (length t₁) (count isLf t₁)) (run lex (size - length t₁) (opened t₂) j .errors)

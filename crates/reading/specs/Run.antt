@@ -1,4 +1,5 @@
--- A run of scans over a text, with any lexer: the reading after each scan and the token that each gives.
+-- A run of scans over a text, with any lexer: the reading after each scan and the token that each
+-- gives.
 use Prim.Native.Nat.{ℕ, zero, suc, _+_}
 use mathlib.Core.Bool.{Bool}
 use mathlib.Core.List.{List}
@@ -32,7 +33,7 @@ pub record Token : Type 0 where
   -- the byte at which its own characters start, and how many they are
   pub start : ℕ
   pub len : ℕ
-  -- a semicolon that does not stand in the text
+  -- a semicolon that is not in the text
   pub inserted : Bool
   -- text and value in bytes, and the code point of a CHAR
   pub text : List ℕ

@@ -23,7 +23,8 @@ abbrev pub NO-LINE : ℕ
 NO-LINE = 5
 
 -- ---- from the state
--- the state, or a part of a token, does not fit what a call is lent, or a slice of numbers is too short
+-- the state, or a part of a token, does not fit what a call is lent, or a slice of numbers is too
+-- short
 abbrev pub DOES-NOT-FIT : ℕ
 DOES-NOT-FIT = 6
 

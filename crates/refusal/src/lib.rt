@@ -10,7 +10,8 @@ pub const NOT_UTF8: u8 = 1;
 // Opening: too long.
 pub const TOO_LONG: u8 = 2;
 
-// A size below the number of characters, or base + size too large; a scan: an offset would pass the size.
+// A size below the number of characters, or base + size too large; a scan: an offset would pass the
+// size.
 pub const BAD_SIZE: u8 = 3;
 
 // A position outside base to base + size.
@@ -20,7 +21,8 @@ pub const NO_POSITION: u8 = 4;
 pub const NO_LINE: u8 = 5;
 
 // ---- From the state.
-// The state, or a part of a token, does not fit what a call is lent, or a slice of numbers is too short.
+// The state, or a part of a token, does not fit what a call is lent, or a slice of numbers is too
+// short.
 pub const DOES_NOT_FIT: u8 = 6;
 
 // More line starts than the table holds.

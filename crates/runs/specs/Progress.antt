@@ -20,7 +20,8 @@ use Rattle.runs.specs.Calls.{Held, call, Seen, play, tokens, linesIn}
 abbrev pub Gives : List ℕ → Held → List (List ℕ) → ℕ → Seen → Type 0
 Gives src h areas i t = getElem? (tokens src areas h) i ≡ some t
 
--- what the next scan needs: room for the line starts and errors after it, and for the bytes that it writes
+-- what the next scan needs: room for the line starts and errors after it, and for the bytes that it
+-- writes
 abbrev pub wants : List ℕ → Held → List ℕ → ℕ
 wants src h area =
     let r = view src (h .state) (h .table) (h .list) in

@@ -53,7 +53,8 @@ rows =
     sizedRow 3 "`\n" (shownToken STRING 0 "`\n" ∷ shownToken SEMICOLON 2 "" ∷ shownToken EOF 2 "" ∷ []) (error 6 2 2 1 ∷ []) ∷
     []
 
--- what the opening leaves, at base 0, where positions are offsets: a table of four line starts and a list of four errors, all 0
+-- what the opening leaves, at base 0, where positions are offsets: a table of four line starts and
+-- a list of four errors, all 0
 abbrev pub begun : Row → Held
 begun r = record { state = fresh 0 (r .size); table = replicate 4 0; list = replicate 16 0 }
 

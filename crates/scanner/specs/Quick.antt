@@ -25,11 +25,13 @@ endsInFeed src x = cond (eqb (x .lfs) 0) true (cond (ltb 1 (x .lfs)) false (eqb 
 abbrev pub startAfter : Lexed → ℕ → List ℕ
 startAfter x offset = cond (eqb (x .lfs) 0) [] (offset ∷ [])
 
--- a plain token that ends before the size at an offset, and has no line feed but perhaps its last byte
+-- a plain token that ends before the size at an offset, and has no line feed but perhaps its last
+-- byte
 abbrev pub isQuick : List ℕ → State → Lexed → ℕ → Bool
 isQuick src s x offset = isPlain x && ltb offset (s .size) && endsInFeed src x
 
--- what such a token behind blanks is given by: the starts of the blanks, room in the table, and numbers that fit
+-- what such a token after blanks is given by: the starts of the blanks, room in the table, and
+-- numbers that fit
 pub record QuickReady (src : List ℕ) (s : State) (b : Skipped) (x : Lexed) (table : List ℕ) : Type 0 where
   pub behind : s .place ≤ b .end
   pub starts : b .lfs ≡ length (startsFrom src s (b .end - s .place))
@@ -48,7 +50,8 @@ quickToken s b x offset =
       token = tokenBy x (b .end) (positionBy s (b .end));
     }
 
--- what is done is what the scan does, with list and area as they are; what is not done leaves the table as it was
+-- what is done is what the scan does, with list and area as they are; what is not done leaves the
+-- table as it was
 abbrev pub Tries : List ℕ → State → List ℕ → List ℕ → Tried → List ℕ → Type 0
 Tries src s table list r table′ =
     (r .done ≡ false → table′ ≡ table)

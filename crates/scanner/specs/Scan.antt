@@ -1,4 +1,5 @@
--- One scan with lent buffers: which refusal it gives, and else the token, the state and what is written.
+-- One scan with lent buffers: which refusal it gives, and else the token, the state and what is
+-- written.
 use Prim.Native.Nat.{ℕ, zero, suc, _+_, _*_}
 use mathlib.Core.Bool.{Bool, false, cond, not}
 use mathlib.Core.List.{List, [], _++_}
@@ -53,7 +54,7 @@ partFrom area start len = record { area = area; start = start; end = start + len
 abbrev pub textPart : ℕ → Placed → Part
 textPart start p = partFrom (p .textDiffers) (cond (p .textDiffers) 0 start) (length (p .lexeme .text))
 
--- the value: behind the text in the area, or after the source's opening quote; without one, nothing
+-- the value: after the text in the area, or after the source's opening quote; without one, nothing
 abbrev pub valuePart : ℕ → Placed → Part
 valuePart start p =
     partFrom (p .valueDiffers)
@@ -72,7 +73,8 @@ tokenOf base start s p =
       value = valuePart start p;
     }
 
--- what a scan comes to, or what there is room for: an offset, line starts, errors, and bytes of the text area
+-- what a scan comes to, or what there is room for: an offset, line starts, errors, and bytes of the
+-- text area
 pub record Extent : Type 0 where
   pub offset : ℕ
   pub lines : ℕ
@@ -87,7 +89,8 @@ refusalFor fit reached room =
     (cond (ltb (room .lines) (reached .lines)) TABLE-FULL
     (cond (ltb (room .errors) (reached .errors)) LIST-FULL (cond (ltb (room .bytes) (reached .bytes)) AREA-FULL 0))))
 
--- how far a source has then been read, and so many bytes to be written, in a text of this size and buffers of these lengths
+-- how far a source has then been read, and so many bytes to be written, in a text of this size and
+-- buffers of these lengths
 abbrev pub refusalOf : Bool → ℕ → Reading → ℕ → ℕ → ℕ → ℕ → ℕ
 refusalOf fit size u table list toWrite area =
     refusalFor fit
@@ -117,11 +120,11 @@ refusedBy n s table list area =
 abbrev pub stateOf : State → Reading → State
 stateOf s u = advance s (u .place) (u .offset) (u .mark) (length (u .lines)) (length (u .errors))
 
--- the list with the error of a lexeme, if it has one, behind the first n
+-- the list with the error of a lexeme, if it has one, after the first n
 abbrev pub withError : ℕ → ℕ → List ℕ → Reading → List ℕ
 withError number n list u = cond (eqb number 0) list (sets list (n * width) (numbers (errorAt number (u .offset) (u .lines))))
 
--- a scan that reads a lexeme, which stands in the source as p says, and comes to u
+-- a scan that reads a lexeme, which lies in the source as p says, and comes to u
 abbrev pub gaveBy : State → Placed → Token → Reading → List ℕ → List ℕ → List ℕ → ScanLeft
 gaveBy s p token u table list area =
     record {

@@ -35,7 +35,8 @@ valueLen x = lengthOf (x .«value_bytes») (x .strays) (x .«value_differs»)
 abbrev pub toWrite : Lexed → ℕ
 toWrite x = cond (x .«text_differs») (textLen x) 0 + cond (x .«value_differs») (valueLen x) 0
 
--- the first refusal of 3, 7, 8, 9, or 0: for the offset reached, the line starts and errors then, and the lengths of the buffers
+-- the first refusal of 3, 7, 8, 9, or 0: for the offset reached, the line starts and errors then,
+-- and the lengths of the buffers
 abbrev pub refusalBy : Lexed → ℕ → ℕ → State → ℕ → ℕ → ℕ → ℕ
 refusalBy x offset starts s table list area =
     refusalFor true
@@ -74,12 +75,13 @@ isPlain x = eqb (x .error) 0 && not (x .«text_differs») && not (x .«value_dif
 abbrev pub startsFrom : List ℕ → State → ℕ → List ℕ
 startsFrom src s read = startsRead (s .size) (s .offset) (take read (chars (drop (s .place) src)))
 
--- the blanks at a state's place, and the token behind them as the lexer says it
+-- the blanks at a state's place, and the token after them as the lexer says it
 pub record Reads (src : List ℕ) (s : State) (b : Skipped) (x : Lexed) : Type 0 where
   pub skipped : b ≡ skippedAt (s .place) (skip (s .mark) (chars (drop (s .place) src)))
   pub token : said src (b .end) x ≡ placed src (b .end) (lexToken (s .mark) (chars (drop (b .end) src)))
 
--- what is known when a token was read: the state fits, and so many characters were read with the blanks
+-- what is known when a token was read: the state fits, and so many characters were read with the
+-- blanks
 pub record Known (src : List ℕ) (s : State) (table list : List ℕ) (b : Skipped) (x : Lexed) (read : ℕ) : Type 0 where
   pub holds : fits s src table list ≡ true
   pub reads : Reads src s b x
@@ -93,7 +95,7 @@ pub record Ready (src : List ℕ) (s : State) (start : ℕ) (x : Lexed) (read st
   pub tableRoom : s .lines + starts ≤ length table
   pub listRoom : s .errors + cond (eqb (x .error) 0) 0 1 ≤ roomOf list
   pub areaRoom : toWrite x ≤ length area
-  -- its bytes stand behind the blanks
+  -- its bytes come after the blanks
   pub behind : s .place ≤ start
   pub before : start ≤ x .end
   pub blanks : start - s .place ≤ read
@@ -120,7 +122,8 @@ leftOf src s start x read starts table list area =
       area = written (toArea (said src start x)) area;
     }
 
--- the position of a token that starts at a place, with blanks of one byte each between the state's place and it
+-- the position of a token that starts at a place, with blanks of one byte each between the state's
+-- place and it
 abbrev pub positionBy : State → ℕ → ℕ
 positionBy s start = s .base + s .offset + (start - s .place)
 

@@ -12,7 +12,8 @@ ghost use Rattle.lexer.specs.Placed.{lengthOf};
 ghost use Rattle.scanner.specs.Scan.{partFrom, noToken};
 ghost use Rattle.scanner.specs.Steps.{textLen, valueLen, tokenBy, isPlain, positionBy};
 
-// The refusal, or 0; the state after the scan; the token. A scan that is refused leaves the state as it was, and gives no token.
+// The refusal, or 0; the state after the scan; the token. A scan that is refused leaves the state
+// as it was, and gives no token.
 pub struct Scanned {
     pub refusal: u8,
     pub state: State,
@@ -74,7 +75,7 @@ fn part_from(area: bool, start: usize, bytes: usize, strays: usize) -> Part
     Part { area, start, end }
 }
 
-// Where the value starts: behind the text in the area, or after the source's opening quote.
+// Where the value starts: after the text in the area, or after the source's opening quote.
 fn value_start(x: Lexed, start: usize, text_end: usize) -> usize
     requires { ⌜ start + 1 < 2 ^ 64 ⌝ }
     ensures { λ r. ⌜ r ≡ cond (x .«value_differs») (cond (x .«text_differs») «text_end» 0) (cond (eqb (x .kind) STRING) (start + 1) start) ⌝ }
@@ -104,7 +105,8 @@ pub(crate) fn is_plain(x: Lexed) -> bool
     !x.value_differs
 }
 
-// The position of a token that starts at a place, with blanks of one byte each between the state's place and it.
+// The position of a token that starts at a place, with blanks of one byte each between the state's
+// place and it.
 pub(crate) fn position_at(state: State, start: usize) -> usize
     requires { ⌜ (state .place ≤ start) × (positionBy state start < 2 ^ 64) ⌝ }
     ensures { λ r. ⌜ r ≡ positionBy state start ⌝ }

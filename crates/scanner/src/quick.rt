@@ -1,4 +1,5 @@
-// Quick scans: of tokens that show the source's own bytes and end before the size, where the table has room. What they do not do, they leave as it was.
+// Quick scans: of tokens that show the source's own bytes and end before the size, where the table
+// has room. Where they do not take a token, they change nothing.
 use crate::answer::is_plain;
 use crate::answer::no_token;
 use crate::answer::plain_token;
@@ -47,7 +48,8 @@ fn ends_in_feed(src: &[u8], x: Lexed) -> bool
     src[x.end - 1] == b'\n'
 }
 
-// Records the line starts of blanks, and the one after a token that ends in a line feed at an offset.
+// Records the line starts of blanks, and the one after a token that ends in a line feed at an
+// offset.
 fn record_ends(
     src: &[u8],
     state: State,
@@ -77,7 +79,8 @@ fn record_ends(
     }
 }
 
-// Is it a token that is given at once? It is plain, ends before the size, and has no line feed but perhaps its last byte.
+// Is it a token that is given at once? It is plain, ends before the size, and has no line feed but
+// perhaps its last byte.
 fn is_quick(src: &[u8], state: State, x: Lexed, offset: usize) -> bool
     requires { ⌜ (x .lfs ≤ x .end) × (x .end ≤ length (now src)) ⌝ }
     ensures { λ r. ⌜ r ≡ isQuick (now (src .entry)) state x offset ⌝ }
@@ -112,7 +115,7 @@ fn give_quick(
     }
 }
 
-// Tries the token that the lexer read behind the blanks, with which so many characters are read.
+// Tries the token that the lexer read after the blanks; with them, so many characters are read.
 pub(crate) fn try_plain(
     src: &[u8],
     state: State,

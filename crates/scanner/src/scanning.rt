@@ -27,7 +27,8 @@ ghost use Rattle.state.specs.Fits.{fileOf, fits};
 ghost use Rattle.scanner.specs.Scan.{scanOf};
 ghost use Rattle.scanner.specs.Steps.{toWrite, refusalBy, stateBy, startsFrom, Reads, Known, Ready, leftOf, commitOf};
 
-// How many line starts the next characters record, so many of them with so many line feeds; at the size a line feed starts no line.
+// How many line starts the next characters record, so many of them with so many line feeds; at the
+// size a line feed starts no line.
 fn starts_read(src: &[u8], state: State, read: usize, lfs: usize) -> usize
     requires { ⌜ (read ≤ length (chars (drop (state .place) (now src)))) × (lfs ≡ count isLf (take read (chars (drop (state .place) (now src)))))
         × (state .offset + read < 2 ^ 64) ⌝ }
@@ -39,7 +40,8 @@ fn starts_read(src: &[u8], state: State, read: usize, lfs: usize) -> usize
     lines::count_starts(src, state.place, read, state.offset, state.size)
 }
 
-// Does an area of so many bytes hold what is to be written of a token? A stray byte is counted once and written in three bytes.
+// Does an area of so many bytes hold what is to be written of a token? A stray byte is counted once
+// and written in three bytes.
 fn has_room(x: Lexed, area: usize) -> bool
     ensures { λ r. ⌜ r ≡ leb (toWrite x) area ⌝ }
 {
@@ -66,7 +68,8 @@ fn has_room(x: Lexed, area: usize) -> bool
     true
 }
 
-// The first refusal of 3, 7, 8 and 9 whose condition holds, or 0: for the offset reached, the line starts read and the lengths of the buffers.
+// The first refusal of 3, 7, 8 and 9 whose condition holds, or 0: for the offset reached, the line
+// starts read and the lengths of the buffers.
 fn refusal_of(
     x: Lexed,
     offset: usize,
@@ -128,7 +131,7 @@ fn record_starts(src: &[u8], state: State, read: usize, starts: usize, table: &m
     );
 }
 
-// Records the error of a token, if it has one, behind the first `count`.
+// Records the error of a token, if it has one, after the first `count`.
 fn record_error(after: State, table: &[usize], list: &mut [usize], count: usize, number: u8)
     requires { ⌜ (fitting (fileOf after) (now table) ≡ true) × (after .offset ≤ after .size) × (count + cond (eqb number 0) 0 1 ≤ roomOf (now list)) ⌝ }
     ensures { λ r. ⌜ now (list .exit) ≡ cond (eqb number 0) (now (list .entry)) (sets (now (list .entry)) (count * width)
@@ -184,7 +187,8 @@ fn commit(
     gave(after, token)
 }
 
-// What a scan comes to by the blanks and the token that it read, so many characters in all: the checks, and then what is written.
+// What a scan comes to by the blanks and the token that it read, so many characters in all: the
+// checks, and then what is written.
 fn finish(
     src: &[u8],
     state: State,
@@ -209,7 +213,7 @@ fn finish(
     commit(src, state, blanks.end, x, read, starts, table, list, area)
 }
 
-// How many characters blanks and the token behind them have.
+// How many characters blanks and the token after them have.
 fn chars_read(src: &[u8], state: State, blanks: Skipped, x: Lexed) -> usize
     requires { ⌜ (state .place ≤ length (now src)) × Reads (now src) state blanks x ⌝ }
     ensures { λ r. ⌜ r ≡ blanks .end - state .place + x .chars ⌝ }
@@ -217,7 +221,8 @@ fn chars_read(src: &[u8], state: State, blanks: Skipped, x: Lexed) -> usize
     blanks.end - state.place + x.chars
 }
 
-// Scans one token where the state fits: a pass that only reads, the checks, and then what is written.
+// Scans one token where the state fits: a pass that only reads, the checks, and then what is
+// written.
 fn scan_next(
     src: &[u8],
     state: State,

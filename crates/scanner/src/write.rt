@@ -1,4 +1,5 @@
-// What a scan writes besides line starts: the record of its error, and a text and a value that differ from the source's bytes.
+// What a scan writes besides line starts: the record of its error, and a text and a value that
+// differ from the source's bytes.
 use lexer::Lexed;
 use lexer::Text;
 use lexer::Value;
@@ -18,7 +19,7 @@ ghost use Rattle.state.specs.Fits.{fileOf};
 ghost use Rattle.scanner.specs.Scan.{written, toArea};
 ghost use Rattle.scanner.specs.Steps.{textLen, toWrite};
 
-// Records an error at the offset that was reached, behind the first `count` of the list.
+// Records an error at the offset that was reached, after the first `count` of the list.
 pub(crate) fn write_error(
     after: State,
     table: &[usize],

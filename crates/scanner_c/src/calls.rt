@@ -1,5 +1,6 @@
-// The exported function: it answers the number of its refusal, or 0, and writes what it gives to lent slices. A slice that is too short for
-// a state or a token is refused by 6, and nothing is written.
+// The exported function: it answers the number of its refusal, or 0, and writes what it gives to
+// lent slices. A slice that is too short for a state or a token is refused by 6, and nothing is
+// written.
 use parts::Token;
 use parts::put_token;
 use refusal::too_short;

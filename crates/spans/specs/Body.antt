@@ -40,7 +40,8 @@ blockBody at r = bodyOf at (toStarSlash false r) r
 abbrev pub rawInside : Span → ℕ
 rawInside s = cond (s .closed) (s .len - 1) (s .len)
 
--- the bytes that a character has in the text of a comment or a raw string: a CR is dropped, a stray byte is written as U+FFFD
+-- the bytes that a character has in the text of a comment or a raw string: a CR is dropped, a stray
+-- byte is written as U+FFFD
 abbrev pub cleaned : Char → List ℕ
 cleaned c = cond (isCr c) [] (encode (c .code))
 

@@ -2,7 +2,8 @@
 use Prim.Native.Nat.{_≤_}
 use Rattle.spans.specs.declared.body.Body.{Body}
 
--- the counts of a body that was read: none is above the number of its characters, nor this above its end
+-- the counts of a body that was read: none is above the number of its characters, nor this above
+-- its end
 pub record Counted (b : Body) : Type 0 where
   pub chars : b .chars ≤ b .end
   pub lfs : b .lfs ≤ b .chars

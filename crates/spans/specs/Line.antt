@@ -1,4 +1,5 @@
--- Whether a general comment ends its line: "holds an LF, is never closed, or has only spaces, tabs and CRs between it and an LF or the end".
+-- Whether a general comment ends its line: "holds an LF, is never closed, or has only spaces, tabs
+-- and CRs between it and an LF or the end".
 use Prim.Native.Char.{code}
 use mathlib.Core.Bool.{Bool, true, cond, _&&_}
 use mathlib.Core.List.{List, [], _∷_}

@@ -8,7 +8,8 @@ use mathlib.Core.List.{List, [], _∷_}
 use lib.Dec.{ltb, leb, eqb}
 use lib.ListN.{length, take, drop}
 
--- is a byte to be looked at by itself: up to a CR, as an LF is; none of ASCII; or one at which the body may close
+-- is a byte to be looked at by itself: up to a CR, as an LF is; none of ASCII; or one at which the
+-- body may close
 abbrev pub special : ℕ → ℕ → Bool
 special stop b = (leb b (code "\r") || ltb 127 b) || eqb b stop
 
@@ -16,11 +17,11 @@ abbrev pub anySpecial : ℕ → List ℕ → Bool
 anySpecial stop [] = false
 anySpecial stop (b ∷ s) = special stop b || anySpecial stop s
 
--- do 16 plain bytes stand at a place
+-- are there 16 plain bytes at a place
 unfoldable pub plainBlock : ℕ → List ℕ → ℕ → Bool
 plainBlock stop s at = leb (at + 16) (length s) && not (anySpecial stop (take 16 (drop at s)))
 
--- n plain bytes stand at a place
+-- there are n plain bytes at a place
 pub record PlainRun (stop : ℕ) (s : List ℕ) (at n : ℕ) : Type 0 where
   pub fits : at + n ≤ length s
   pub plain : anySpecial stop (take n (drop at s)) ≡ false

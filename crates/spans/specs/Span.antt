@@ -28,7 +28,8 @@ unfoldable pub toStop : ℕ → List Char → Span
 toStop stop [] = unclosed
 toStop stop (c ∷ r) = cond (eqb (c .code) stop) last (longerSpan (toStop stop r))
 
--- to the first `*/`; `star`: the character before is a `*`. The opening's own does not count, and a dropped CR is a character still
+-- to the first `*/`; `star`: the character before is a `*`. The opening's own does not count, and a
+-- dropped CR is a character still
 unfoldable pub toStarSlash : Bool → List Char → Span
 toStarSlash star [] = unclosed
 toStarSlash star (c ∷ r) = cond (star && eqb (c .code) (code "/")) last (longerSpan (toStarSlash (eqb (c .code) (code "*")) r))

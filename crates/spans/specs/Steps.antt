@@ -27,7 +27,8 @@ grown b c closes =
       strays = b .strays + one (isStray c);
     }
 
--- where and how the search for the comment's end stops within its line: closed before a place, or at the end or at an LF
+-- where and how the search for the comment's end stops within its line: closed before a place, or
+-- at the end or at an LF
 unfoldable pub stopFrom : ℕ → Bool → List Char → Stop
 stopFrom at star [] = End false
 stopFrom at star (c ∷ r) =

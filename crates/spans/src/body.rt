@@ -9,8 +9,8 @@ ghost use Rattle.spans.specs.Body.{stopBody, rawBody, lineBody, blockBod
 ghost use Rattle.spans.specs.Steps.{emptyAt, grown};
 ghost use Rattle.spans.specs.Counted.{Counted};
 
-// What is read of a body: where it ends, how many characters it has, whether its closing was read, and how many of its
-// characters are LFs, CRs and stray bytes.
+// What is read of a body: where it ends, how many characters it has, whether its closing was read,
+// and how many of its characters are LFs, CRs and stray bytes.
 pub struct Body {
     pub end: usize,
     pub chars: usize,

@@ -1,4 +1,5 @@
-// Bodies that may hold line feeds: those of raw strings and comments; and whether a comment ends its line.
+// Bodies that may hold line feeds: those of raw strings and comments; and whether a comment ends
+// its line.
 mod body;
 mod line;
 mod plain;

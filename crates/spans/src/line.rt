@@ -8,7 +8,8 @@ ghost use Rattle.reader.specs.Read.{readPlace};
 ghost use Rattle.spans.specs.Line.{blankToEnd, endsLine};
 ghost use Rattle.spans.specs.Steps.{stopFrom};
 
-// Where and how the search for a comment's end stopped: closed before a place, or at the end of its line or of the source.
+// Where and how the search for a comment's end stopped: closed before a place, or at the end of its
+// line or of the source.
 pub(crate) enum Stop {
     Closed(usize),
     End { lf: bool },

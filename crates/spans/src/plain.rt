@@ -4,7 +4,8 @@ ghost use Prim.Native.Nat.{_+_, _<_};
 ghost use lib.ListN.{length};
 ghost use Rattle.spans.specs.Plain.{plainBlock, PlainRun};
 
-// Are there 16 bytes at a place, none of which is to be looked at by itself? Each test is made of each byte: a loop of few wide steps.
+// Are there 16 bytes at a place, none of which is to be looked at by itself? Each test is made of
+// each byte: a loop of few wide steps.
 pub(crate) fn is_block(src: &[u8], at: usize, stop: u8) -> bool
     ensures { λ r. ⌜ r ≡ plainBlock stop (now (src .entry)) at ⌝ }
 {
@@ -22,8 +23,9 @@ pub(crate) fn is_block(src: &[u8], at: usize, stop: u8) -> bool
     !any
 }
 
-// How many of the next eight bytes, before the first other, are not to be looked at by themselves; none where there are fewer than eight.
-// A test's answer is the top bit of each byte: that of a sum with the byte's low seven bits, which never reaches into the next byte.
+// How many of the next eight bytes, before the first other, are not to be looked at by themselves;
+// none where there are fewer than eight. A test's answer is the top bit of each byte: that of a sum
+// with the byte's low seven bits, which never reaches into the next byte.
 pub(crate) fn run_len(src: &[u8], at: usize, stop: u8) -> usize
     requires { ⌜ (stop < 128) × (at < length (now src)) ⌝ }
     ensures { λ r. ⌜ PlainRun stop (now (src .entry)) at r × (r < 8 → at + r < length (now (src .entry))) ⌝ }

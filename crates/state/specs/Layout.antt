@@ -14,7 +14,8 @@ abbrev pub bit : Bool → ℕ
 bit true = 1
 bit false = 0
 
--- the state that the first seven numbers are, of which those that lack are 0; any number but 0 is a set mark
+-- the state that the first seven numbers are, where missing numbers are 0; any number but 0 is a
+-- set mark
 abbrev pub stateIn : List ℕ → State
 stateIn n =
     record {

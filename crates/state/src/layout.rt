@@ -11,7 +11,7 @@ pub fn bit_of(b: bool) -> usize
     if b { 1 } else { 0 }
 }
 
-// The number at an index, or 0 behind the last.
+// The number at an index, or 0 after the last.
 fn number_at(n: &[usize], at: usize) -> usize
     ensures { λ r. ⌜ r ≡ getD (now (n .entry)) at 0 ⌝ }
 {

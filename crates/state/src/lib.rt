@@ -1,4 +1,5 @@
-// The state of a scan, whether it goes together with what a call is lent, and the numbers that it is.
+// The state of a scan, whether it goes together with what a call is lent, and the numbers that it
+// is.
 mod layout;
 mod state;
 

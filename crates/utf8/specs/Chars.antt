@@ -1,4 +1,5 @@
--- The characters of a text: what stands at a place, all of them, whether each is well formed, and the bytes of a code.
+-- The characters of a text: what is at a place, all of them, whether each is well formed, and the
+-- bytes of a code.
 use Prim.Native.Nat.{ℕ, zero, suc, pred, _+_, _*_, _/_, _%_}
 use mathlib.Core.Bool.{Bool, true, cond, not, _&&_, _||_}
 use mathlib.Core.List.{List, [], _∷_, _++_}

@@ -18,7 +18,7 @@ low a = cond (eqb a 0xE0) 0xA0 (cond (eqb a 0xF0) 0x90 0x80)
 unfoldable pub high : ℕ → ℕ
 high a = cond (eqb a 0xED) 0x9F (cond (eqb a 0xF4) 0x8F 0xBF)
 
--- may b stand after the first byte a
+-- may b come after the first byte a
 abbrev pub second : ℕ → ℕ → Bool
 second a b = between (low a) b (high a)
 
@@ -30,6 +30,7 @@ sequence a b c d =
     (cond (between 0xE0 a 0xEF) (cond (second a b) (cond (isTail c) 3 0) 0)
     (cond (between 0xF0 a 0xF4) (cond (second a b) (cond (isTail c) (cond (isTail d) 4 0) 0) 0) 0)))
 
--- the character that a text's first four bytes begin with; a byte past the end counts as 0, which continues nothing
+-- the character that a text's first four bytes begin with; a byte past the end counts as 0, which
+-- continues nothing
 unfoldable pub decoded : ℕ → ℕ → ℕ → ℕ → Char
 decoded a b c d = charOf (sequence a b c d) a b c d

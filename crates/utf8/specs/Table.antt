@@ -1,4 +1,5 @@
--- The well-formed byte sequences, by the table of RFC 3629, section 4: a row a line, each byte within its bounds.
+-- The well-formed byte sequences, by the table of RFC 3629, section 4: a row a line, each byte
+-- within its bounds.
 use Prim.Native.Nat.{ℕ}
 use mathlib.Core.Bool.{Bool, true, false, cond, _&&_}
 use mathlib.Core.List.{List, [], _∷_}

@@ -42,7 +42,7 @@ fn choose(t: bool, n: usize) -> usize
     if t { n } else { 0 }
 }
 
-// May b stand in a character after its first byte?
+// May b come in a character after its first byte?
 fn follows(b: u8) -> bool
     ensures { λ r. ⌜ r ≡ isTail b ⌝ }
 {
@@ -69,7 +69,7 @@ fn high_of(a: u8) -> u8
     if a == 0xF4 { 0x8F } else { 0xBF }
 }
 
-// May b stand after the first byte a?
+// May b come after the first byte a?
 fn second_of(a: u8, b: u8) -> bool
     ensures { λ r. ⌜ r ≡ second a b ⌝ }
 {

@@ -26,6 +26,7 @@ abbrev pub checkingOf : Checked → Checking
 checkingOf (Valid count) = valid count
 checkingOf (Bad place) = notUtf8 place
 
--- of a well-formed text the number of its characters, of any other the place of the first byte that belongs to no well-formed character
+-- of a well-formed text the number of its characters, of any other the place of the first byte that
+-- belongs to no well-formed character
 abbrev pub checkedOf : List ℕ → Checking
 checkedOf s = cond (wellFormed s) (valid (length (chars s))) (notUtf8 (bytesBefore (chars s)))

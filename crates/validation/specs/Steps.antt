@@ -11,6 +11,6 @@ abbrev pub allAscii : List ℕ → Bool
 allAscii [] = true
 allAscii (b ∷ s) = ltb b 0x80 && allAscii s
 
--- do 32 bytes of ASCII stand at a place
+-- are there 32 bytes of ASCII at a place
 unfoldable pub asciiBlock : List ℕ → ℕ → Bool
 asciiBlock s at = leb (at + 32) (length s) && allAscii (take 32 (drop at s))

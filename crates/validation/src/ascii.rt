@@ -2,7 +2,8 @@
 ghost use mathlib.Core.Path.{_≡_};
 ghost use Rattle.validation.specs.Steps.{asciiBlock};
 
-// Are there 32 bytes at a place, all of them below 128? Their greatest byte tells: a loop that is made of few wide steps.
+// Are there 32 bytes at a place, all of them below 128? Their greatest byte tells: a loop that is
+// made of few wide steps.
 pub(crate) fn is_block(s: &[u8], at: usize) -> bool
     ensures { λ r. ⌜ r ≡ asciiBlock (now (s .entry)) at ⌝ }
 {

@@ -4,7 +4,8 @@ mod ascii;
 ghost use mathlib.Core.Path.{_≡_};
 ghost use Rattle.validation.specs.Answers.{checkingOf, checkedOf};
 
-// A text that was checked: how many characters it has, or the place of a byte that belongs to no well-formed character.
+// A text that was checked: how many characters it has, or the place of a byte that belongs to no
+// well-formed character.
 pub enum Checked {
     Valid(usize),
     Bad(usize),

@@ -26,8 +26,9 @@ pub fn is_letter(b: u8) -> bool
     b <= b'z'
 }
 
-// For each of eight bytes 0x80 where it is no letter and no digit, else 0. A test's answer is the top bit of each byte: that of a sum
-// or a difference with the byte's low seven bits, which never reaches into the next byte.
+// For each of eight bytes 0x80 where it is no letter and no digit, else 0. A test's answer is the
+// top bit of each byte: that of a sum or a difference with the byte's low seven bits, which never
+// reaches into the next byte.
 fn others(w: u64) -> u64
     ensures { λ r. ⌜ r ≡ lanes 8 otherMark w ⌝ }
 {
@@ -49,7 +50,8 @@ fn run_at(src: &[u8], at: usize) -> usize
     u64::trailing_zeros(others(swar::eight(src, at))) as usize / 8
 }
 
-// The place after the longest run of letters and digits at a place. (The loop would do without its test; with it, the load has none.)
+// The place after the longest run of letters and digits at a place. (The answer would be the same
+// without the loop's test. With it, the load of eight bytes needs none.)
 pub fn word_end(src: &[u8], at: usize) -> usize
     ensures { λ r. ⌜ r ≡ at + wordLen (chars (drop at (now (src .entry)))) ⌝ }
 {
@@ -64,7 +66,8 @@ pub fn word_end(src: &[u8], at: usize) -> usize
     p + run_at(src, p)
 }
 
-// The run of letters and digits at a place, as far as eight bytes go: its length, and the number that its bytes are.
+// The run of letters and digits at a place, as far as eight bytes go: its length, and the number
+// that its bytes are.
 pub struct Near {
     pub len: usize,
     pub number: u64,

@@ -10,7 +10,8 @@ ghost use Rattle.writing.specs.Written.{lineText};
 ghost use Rattle.writing.specs.Text.{text};
 ghost use Rattle.writing.specs.Writes.{Writes};
 
-// Writes the characters at a place, so many of them, with or without CR, and answers the place after them.
+// Writes the characters at a place, so many of them, with or without CR, and answers the place
+// after them.
 fn write_chars(src: &[u8], at: usize, count: usize, crs: bool, area: &mut [u8], to: usize) -> usize
     ensures { λ r. ⌜ Writes (now (area .entry)) to (text crs (take count (chars (drop at (now (src .entry)))))) (now (area .exit)) r ⌝ }
 {

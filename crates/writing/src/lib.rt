@@ -1,4 +1,5 @@
-// Writing texts and values to an area, from a place on. Bytes that would stand past the area's end are not written.
+// Writing texts and values to an area, from a place on. Bytes that would come after the area's end
+// are not written.
 mod chars;
 mod number;
 mod put;

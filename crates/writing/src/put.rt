@@ -3,7 +3,8 @@ ghost use mathlib.Core.List.{[], _∷_};
 ghost use Rattle.utf8.specs.Chars.{encode};
 ghost use Rattle.writing.specs.Writes.{Writes};
 
-// Writes a byte and answers the place after it; at the area's end nothing is written, and the place stays.
+// Writes a byte and answers the place after it; at the area's end nothing is written, and the place
+// stays.
 pub(crate) fn put(area: &mut [u8], to: usize, b: u8) -> usize
     ensures { λ r. ⌜ Writes (now (area .entry)) to (b ∷ []) (now (area .exit)) r ⌝ }
 {

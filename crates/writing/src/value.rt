@@ -27,7 +27,7 @@ fn put_given(code: u32, byte: bool, area: &mut [u8], to: usize) -> usize
     }
 }
 
-// The value of the string whose body stands at a place.
+// The value of the string whose body starts at a place.
 pub fn write_interpreted(src: &[u8], at: usize, area: &mut [u8], to: usize)
     ensures { λ r. ⌜ now (area .exit) ≡ sets (now (area .entry)) to (body doubleQuote (chars (drop at (now (src .entry)))) .value) ⌝ }
 {
@@ -57,7 +57,7 @@ pub fn write_interpreted(src: &[u8], at: usize, area: &mut [u8], to: usize)
     }
 }
 
-// How many characters of the raw string whose body stands at a place belong to its value.
+// How many characters of the raw string whose body starts at a place belong to its value.
 fn raw_inside(src: &[u8], at: usize) -> usize
     ensures { λ r. ⌜ r ≡ rawCount (chars (drop at (now (src .entry)))) ⌝ }
 {
@@ -69,7 +69,7 @@ fn raw_inside(src: &[u8], at: usize) -> usize
     }
 }
 
-// The value of the raw string whose body stands at a place.
+// The value of the raw string whose body starts at a place.
 pub fn write_raw(src: &[u8], at: usize, area: &mut [u8], to: usize)
     ensures { λ r. ⌜ now (area .exit) ≡ sets (now (area .entry)) to (rawValue (chars (drop at (now (src .entry))))) ⌝ }
 {
