@@ -1,29 +1,8 @@
-/* The test of scanner.h: listings, refusals, buffers that grow, many scans in one call. */
-#include "scanner.h"
+/* The test of scanner.h: names, listings, refusals, buffers that grow, many scans in one call. */
+#include "check.h"
 
 #include <stdarg.h>
-#include <stdio.h>
 #include <stdlib.h>
-#include <string.h>
-
-static int passed, failed;
-
-static void check(int holds, const char *what)
-{
-    if (holds) {
-        passed++;
-        return;
-    }
-    failed++;
-    printf("failed: %s\n", what);
-}
-
-/* A part of a check: counted only where it fails. */
-static void part(int holds, const char *what)
-{
-    if (!holds)
-        check(0, what);
-}
 
 /* A scanner with its buffers. */
 struct run {
@@ -111,11 +90,6 @@ static struct scanner_bytes text_of(struct run *r, const size_t *token)
 static struct scanner_bytes value_of(struct run *r, const size_t *token)
 {
     return bytes_of(r, token, 1);
-}
-
-static int same(struct scanner_bytes bytes, const char *text)
-{
-    return bytes.len == strlen(text) && memcmp(bytes.start, text, bytes.len) == 0;
 }
 
 /* A listing is gathered here, its lines parted by bars. */
@@ -520,10 +494,65 @@ static void test_many_states(void)
     check(scan_beside(&r, 2560) == SCANNER_OK && r.answer[0] == 4, "mended, and read at once");
 }
 
+/* The operators of each precedence, 1 to 5, and other kinds. */
+static void test_precedence(void)
+{
+    static const char *const levels[] = {
+        " || ", " && ", " == != < <= > >= ", " + - | ^ ", " * / % << >> & &^ ",
+    };
+    size_t kind;
+    int level;
+    for (kind = 0; kind < SCANNER_KINDS + 2; kind++) {
+        int expected = 0;
+        char word[16];
+        snprintf(word, sizeof word, " %s ", scanner_kind_name(kind));
+        for (level = 1; level <= 5; level++)
+            if (kind < SCANNER_KINDS && strstr(levels[level - 1], word) != NULL)
+                expected = level;
+        check(scanner_kind_precedence(kind) == expected, word);
+    }
+}
+
+static void test_classes(void)
+{
+    size_t kind;
+    for (kind = 0; kind < SCANNER_KINDS + 2; kind++) {
+        const char *name = scanner_kind_name(kind);
+        int capital = 'A' <= name[0] && name[0] <= 'Z', small = 'a' <= name[0] && name[0] <= 'z';
+        int none = kind >= SCANNER_KINDS;
+        part(scanner_kind_is_literal(kind) == (capital && kind > SCANNER_KIND_COMMENT), name);
+        part(scanner_kind_is_keyword(kind) == small, name);
+        part(scanner_kind_is_operator(kind) == (!none && !capital && !small), name);
+    }
+    check(strcmp(scanner_kind_name(SCANNER_KIND_AND_NOT_ASSIGN), "&^=") == 0, "the name of &^=");
+    check(strcmp(scanner_kind_name(SCANNER_KINDS), "") == 0, "no kind, and no name");
+}
+
+/* Each error and each refusal has a text of its own. */
+static void test_texts(void)
+{
+    size_t i, j;
+    for (i = 0; i <= SCANNER_ERROR_CHAR; i++)
+        for (j = 0; j < i; j++)
+            part(strcmp(scanner_error_text(i), scanner_error_text(j)) != 0, scanner_error_text(i));
+    for (i = 0; i <= SCANNER_AREA_FULL + 1; i++)
+        for (j = 0; j < i; j++)
+            part(strcmp(scanner_refusal_text(i), scanner_refusal_text(j)) != 0,
+                 scanner_refusal_text(i));
+    check(strcmp(scanner_error_text(SCANNER_ERROR_CHAR + 1), "unknown error") == 0, "no error");
+    check(strcmp(scanner_refusal_text(SCANNER_AREA_FULL + 1), "unknown refusal") == 0,
+          "no refusal of the library");
+    check(strcmp(scanner_refusal_text(SCANNER_NO_MEMORY), "there is not enough memory") == 0,
+          "the text of 255");
+}
+
 int main(void)
 {
     check(SCANNER_KINDS == 82 && SCANNER_KIND_VAR == 81 && SCANNER_KIND_SEMICOLON == 55, "82 kinds");
     check(SCANNER_AREA_FULL == 9 && SCANNER_ERROR_CHAR == 13, "9 refusals, 13 errors");
+    test_precedence();
+    test_classes();
+    test_texts();
     test_rows();
     test_opening();
     test_queries();
@@ -537,6 +566,5 @@ int main(void)
     test_stops();
     test_many_full();
     test_many_states();
-    printf("%d passed, %d failed\n", passed, failed);
-    return failed != 0;
+    return counted();
 }
