@@ -1,6 +1,7 @@
 /*
- * The test of scanner_struct.h: random texts beside scanner_scan, token by token; buffers that grow;
- * no memory; refusals. An argument gives another number of random texts.
+ * The test of scanner_struct.h: random texts beside scanner_scan, token by token; buffers that
+ * grow; no memory; refusals. An argument gives another number of random texts, and leaves out the
+ * long ones.
  */
 #include <stdint.h>
 #include <stdlib.h>
@@ -50,7 +51,8 @@ static void plain_init(struct plain *p, const uint8_t *src, size_t len)
     p->area = malloc(SCANNER_AREA_ENOUGH(len));
     if (p->table == NULL || p->list == NULL || p->area == NULL)
         exit(2);
-    part(plain_open(p, len) == SCANNER_OK && plain_open(p, p->chars) == SCANNER_OK, "a source opens");
+    part(plain_open(p, len) == SCANNER_OK, "a source opens");
+    part(plain_open(p, p->chars) == SCANNER_OK, "a source opens in its number of characters");
 }
 
 static void plain_free(struct plain *p)
@@ -89,16 +91,19 @@ static int equal(struct scanner_bytes a, struct scanner_bytes b)
 static void compare_tokens(struct plain *p, const struct scanner_token *token)
 {
     const size_t *numbers = p->token;
+    const size_t *text = numbers + SCANNER_TOKEN_TEXT_IN_AREA;
+    const size_t *value = numbers + SCANNER_TOKEN_VALUE_IN_AREA;
     size_t place[SCANNER_POSITION_LEN];
     part(token->kind == numbers[SCANNER_TOKEN_KIND], "the kind");
     part((size_t)token->inserted == numbers[SCANNER_TOKEN_INSERTED], "the inserted semicolon");
     part(token->position == numbers[SCANNER_TOKEN_POSITION], "the position");
     part(token->code == numbers[SCANNER_TOKEN_CODE], "the code point");
-    part(equal(token->text, scanner_part(numbers + SCANNER_TOKEN_TEXT_IN_AREA, p->src, p->area)), "the text");
-    part(equal(token->value, scanner_part(numbers + SCANNER_TOKEN_VALUE_IN_AREA, p->src, p->area)), "the value");
+    part(equal(token->text, scanner_part(text, p->src, p->area)), "the text");
+    part(equal(token->value, scanner_part(value, p->src, p->area)), "the value");
     part(scanner_position(p->state, SCANNER_STATE_LEN, p->table, SCANNER_TABLE_ENOUGH(p->len),
                           token->position, place, SCANNER_POSITION_LEN) == SCANNER_OK, "a place");
-    part(token->line == place[SCANNER_LINE] && token->column == place[SCANNER_COLUMN], "line and column");
+    part(token->line == place[SCANNER_LINE], "the line");
+    part(token->column == place[SCANNER_COLUMN], "the column");
     part(token->start == byte_of(p, token->position), "the first byte");
     part(token->end == p->state[SCANNER_STATE_PLACE], "the byte after the last");
 }
@@ -121,8 +126,8 @@ static void compare_answers(struct plain *p, struct scanner *s)
 
 /*
  * Reads a source to EOF, and past it, in both ways. Line count and errors are asked for after each
- * `often` tokens, and not before EOF if it is 0. Each question is asked when the token is compared
- * already, and before: its text must outlast it.
+ * `often` tokens, and not before EOF if it is 0. They are asked for before the token is compared:
+ * its text must outlast the question.
  */
 static void compare_bytes(const uint8_t *src, size_t len, size_t often)
 {
@@ -153,12 +158,12 @@ static void compare(const char *text, size_t often)
 }
 
 static const char *const pieces[] = {
-    "x", "lane", "quota_1", "if", "return", "break", "fallthrough", "range", "+", "&^=", "...", "..",
-    ".", ";", "(", ")", "{", "}", "++", "1", "017", "08", "0X1F", "0b2", "1__0", "1E5", "1e", "3.5i",
-    "'x'", "''", "'ab'", "'\\n'", "'\xc3\xa9'", "'", "\"a\"", "\"a\\n\"", "\"\\400\"", "\"\\q",
-    "\"\xe2\x82\xac\\x41\"", "\"", "`raw`", "`a\r\nb`", "`", "// c\n", "// c\r\n", "//\xc3\xa9\r",
-    "/* c */", "/* a\r\n\xf0\x9f\xa7\xac */", "/*", "*\r/", "\n", "\n\n", "\r\n", " ", "\t", " \n ",
-    "\xc3\xa9", "\xf0\x9f\xa7\xac", "#", "\\", "\x7f",
+    "x", "lane", "quota_1", "if", "return", "break", "fallthrough", "range", "+", "&^=", "...",
+    "..", ".", ";", "(", ")", "{", "}", "++", "1", "017", "08", "0X1F", "0b2", "1__0", "1E5",
+    "1e", "3.5i", "'x'", "''", "'ab'", "'\\n'", "'\xc3\xa9'", "'", "\"a\"", "\"a\\n\"",
+    "\"\\400\"", "\"\\q", "\"\xe2\x82\xac\\x41\"", "\"", "`raw`", "`a\r\nb`", "`", "// c\n",
+    "// c\r\n", "//\xc3\xa9\r", "/* c */", "/* a\r\n\xf0\x9f\xa7\xac */", "/*", "*\r/", "\n",
+    "\n\n", "\r\n", " ", "\t", " \n ", "\xc3\xa9", "\xf0\x9f\xa7\xac", "#", "\\", "\x7f",
 };
 
 static uint64_t seed = 17;
@@ -324,7 +329,7 @@ static void test_sizes(void)
     struct scanner_token token;
     size_t answer[SCANNER_POSITION_LEN];
     const uint8_t *src = (const uint8_t *)"x\n\xc3\xa9\n017\n";
-    check(scanner_init_with_size(&s, src, 9, 5, 7) == SCANNER_SIZE, "3, a size below the characters");
+    check(scanner_init_with_size(&s, src, 9, 5, 7) == SCANNER_SIZE, "3, a size that is too small");
     scanner_free(&s);
     check(scanner_init_with_size(&s, src, 9, 5, 9) == SCANNER_OK && s.characters == 8, "base 5");
     do
@@ -336,9 +341,35 @@ static void test_sizes(void)
     check(scanner_position(s.state, SCANNER_STATE_LEN, s.table, s.table_len, 7,
                            answer, SCANNER_POSITION_LEN) == SCANNER_OK
               && answer[SCANNER_LINE] == 2, "the plain functions on a settled scanner");
-    part(scanner_next(&s, &token) == SCANNER_OK && scanner_next(&s, &token) == SCANNER_OK, "two more");
-    check(token.kind == SCANNER_KIND_EOF && scanner_lines(&s) == 4, "an LF starts a line in a larger size");
+    do
+        part(scanner_next(&s, &token) == SCANNER_OK, "a token");
+    while (token.kind != SCANNER_KIND_EOF);
+    check(scanner_lines(&s) == 4, "the last LF starts a line in a larger size");
     scanner_free(&s);
+}
+
+/* Questions make the batches short, and they get longer again. */
+static void test_batches(void)
+{
+    struct scanner s;
+    struct scanner_token token;
+    size_t i, len;
+    char *text = repeat("x+", 200, &len);
+    part(scanner_init(&s, (const uint8_t *)text, len) == SCANNER_OK, "an init");
+    part(scanner_next(&s, &token) == SCANNER_OK, "a token");
+    check(s.count == SCANNER_BATCH && s.given == 1, "a long batch");
+    check(scanner_errors(&s) == 0 && s.count == 1, "what was read ahead is dropped");
+    for (i = 1; i < SCANNER_BATCH; i++)
+        part(scanner_next(&s, &token) == SCANNER_OK && token.position == i, "a token");
+    check(s.count == 32, "batches of 1, 2, 4, 8, 16 and 32");
+    scanner_free(&s);
+    free(text);
+}
+
+static void test_empty(void)
+{
+    struct scanner s;
+    struct scanner_token token;
     check(scanner_init(&s, NULL, 0) == SCANNER_OK && scanner_next(&s, &token) == SCANNER_OK
               && token.kind == SCANNER_KIND_EOF && token.start == 0 && token.end == 0, "no source");
     scanner_free(&s);
@@ -351,6 +382,8 @@ int main(int argc, char **argv)
     test_no_memory();
     test_refusals();
     test_sizes();
+    test_batches();
+    test_empty();
     test_random(argc > 1 ? strtoul(argv[1], NULL, 10) : 4000);
     if (argc == 1)
         test_long();
