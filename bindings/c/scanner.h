@@ -9,15 +9,16 @@
  * scanner_scan_many for many at a time, up to SCANNER_KIND_EOF. The library keeps nothing between
  * calls: state, line table, error list and text area are the caller's.
  *
- * Each function answers 0, or the number of a refusal. A refused call changes nothing that it was
- * lent, but for the place that refusal 1 carries. After 7, 8 or 9, copy the line table, the error
- * list or the text area to a larger one and call again.
+ * Each function answers SCANNER_OK, which is 0, or the number of a refusal. A refused call changes
+ * nothing that it was lent, but for the place that SCANNER_NOT_UTF8 carries. After
+ * SCANNER_TABLE_FULL, SCANNER_LIST_FULL or SCANNER_AREA_FULL, copy the line table, the error list
+ * or the text area to a larger one, and call again.
  *
  * First of all, each function checks that its slices of numbers are long enough: a state of
  * SCANNER_STATE_LEN numbers, a token of SCANNER_TOKEN_LEN, room for one token in `tokens`, and in
- * `answer` as many numbers as its comment says. If one is too short, the call is refused with 6,
- * and nothing is written. Table, list and area may have any length. The list holds one error for
- * each SCANNER_ERROR_LEN numbers.
+ * `answer` as many numbers as its comment says. If one is too short, the call is refused with
+ * SCANNER_DOES_NOT_FIT, and nothing is written. Table, list and area may have any length. The list
+ * holds one error for each SCANNER_ERROR_LEN numbers.
  *
  * Lengths count elements. No pointer may be NULL, not even where its length is 0, and no two
  * buffers of a call may overlap.
@@ -54,13 +55,13 @@ extern "C" {
 
 /*
  * Lengths of line table, error list and text area that always suffice for a source of so many
- * bytes: with these, a source that was opened is scanned to EOF without refusal 7, 8 or 9.
+ * bytes: with these, a source that was opened is scanned to EOF and no buffer is ever full.
  *
  * The table has the first line start, and at most one after each character. A scan records at
  * most one error, and one that does has read a character. A text is at most one byte longer than
  * the bytes that it was read from (`017` is shown as `0o17`), and a value is shorter than them.
  *
- * Most sources need much less, so it pays to start with less and to grow on 7, 8 and 9.
+ * Most sources need much less, so it pays to start with less and to grow when one is full.
  */
 #define SCANNER_TABLE_ENOUGH(bytes) ((bytes) + 1)
 #define SCANNER_LIST_ENOUGH(bytes) (SCANNER_ERROR_LEN * ((bytes) + 1))
@@ -100,12 +101,13 @@ enum scanner_place_index {
 };
 
 /*
- * The refusals. 1 to 5 come from the input, 6 to 9 from the state and the buffers.
+ * The refusals. Those up to SCANNER_NO_LINE come from the input, the others from the state and the
+ * buffers.
  *
- * 6 says that what a call is lent does not go together: the place is beyond the source, the
- * offset above the place or the size, base + size too large, the line count 0 or above the table,
- * the first start not 0, the last start or that of the line asked for above the offset, the error
- * count above the list, a part of a token outside its buffer; or a slice is too short.
+ * SCANNER_DOES_NOT_FIT says that what a call is lent does not go together: the place is beyond the
+ * source, the offset above the place or the size, base + size too large, the line count 0 or above
+ * the table, the first start not 0, the last start or that of the line asked for above the offset,
+ * the error count above the list, a part of a token outside its buffer; or a slice is too short.
  *
  * The library never answers SCANNER_NO_MEMORY; the functions of scanner_struct.h do.
  */
@@ -330,8 +332,8 @@ static inline const char *scanner_refusal_text(size_t number)
 /*
  * Opens a source of Go text: UTF-8, at most SCANNER_MAX_SOURCE bytes. The size is at least its
  * number of characters. The first state goes to `state`, the first line start to `table`, the
- * number of characters to `answer` (1 number). With refusal 1, the place of a byte that belongs to
- * no character goes there.
+ * number of characters to `answer` (1 number). With SCANNER_NOT_UTF8, the place of a byte that
+ * belongs to no character goes there.
  */
 uint8_t scanner_open(const uint8_t *src, size_t src_len, size_t base, size_t size,
                      size_t *table, size_t table_len, size_t *state, size_t state_len,
@@ -387,7 +389,7 @@ uint8_t scanner_error(const size_t *state, size_t state_len, const size_t *list,
  * numbers): 1 if it is in the area, its start, its end. Give the source that was scanned, and the
  * area as the token's own scan left it. Operators (semicolons among them), keywords and EOF have
  * an empty text: a part of the source at the place of the token. A part that is not inside its
- * buffer, as one of a token that no scan gave may be, is refused with 6.
+ * buffer, as one of a token that no scan gave may be, is refused with SCANNER_DOES_NOT_FIT.
  */
 uint8_t scanner_text(const uint8_t *src, size_t src_len, const uint8_t *area, size_t area_len,
                      const size_t *token, size_t token_len, size_t *answer, size_t answer_len);
