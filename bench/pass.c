@@ -1,11 +1,11 @@
 #include "pass.h"
-#include "scanner.h"
+#include "scanner_struct.h"
 
 #include <time.h>
 
-static size_t table[SCANNER_MAX_SOURCE + 1];
-static size_t list[SCANNER_ERROR_LEN * (SCANNER_MAX_SOURCE + 1)];
-static uint8_t area[2 * (SCANNER_MAX_SOURCE + 1)];
+static size_t table[SCANNER_TABLE_ENOUGH(SCANNER_MAX_SOURCE)];
+static size_t list[SCANNER_LIST_ENOUGH(SCANNER_MAX_SOURCE)];
+static uint8_t area[SCANNER_AREA_ENOUGH(SCANNER_MAX_SOURCE)];
 
 #define LEN(array) (sizeof(array) / sizeof *(array))
 
@@ -44,6 +44,23 @@ size_t pass_by_one(const uint8_t *src, size_t len, size_t *sum)
     } while (token[SCANNER_TOKEN_KIND] != SCANNER_KIND_EOF);
     *sum = total;
     return tokens;
+}
+
+size_t pass_by_struct(const uint8_t *src, size_t len, size_t *sum)
+{
+    struct scanner s;
+    struct scanner_token token;
+    size_t tokens = 0, total = 0;
+    uint8_t refusal = scanner_init(&s, src, len);
+    while (refusal == SCANNER_OK && (refusal = scanner_next(&s, &token)) == SCANNER_OK) {
+        tokens++;
+        total += token.position + token.text.len;
+        if (token.kind == SCANNER_KIND_EOF)
+            break;
+    }
+    scanner_free(&s);
+    *sum = total;
+    return refusal == SCANNER_OK ? tokens : 0;
 }
 
 double thread_time(void)

@@ -6,7 +6,7 @@
  * harness ROUNDS [exact]
  *
  * The same number of rounds makes the same calls. With `exact` each buffer has a block of memory of its own length,
- * for memcheck, which sees reads outside it, too; without, guard bytes stand around it.
+ * for memcheck, which sees reads outside it, too; without, it has guard bytes around it.
  */
 #include "scanner.h"
 
@@ -139,7 +139,7 @@ static void check_guards(const struct lent *b)
     static uint8_t guards[GUARD];
     memset(guards, GUARD_BYTE, GUARD);
     check(same(b->block, guards, guard), "a byte before a buffer was written");
-    check(same(bytes_of(b) + b->bytes, guards, guard), "a byte behind a buffer was written");
+    check(same(bytes_of(b) + b->bytes, guards, guard), "a byte after a buffer was written");
 }
 
 /* The elements from `first` to the one before `end` alone may have changed, and nothing around the buffer. */
@@ -261,7 +261,7 @@ static void check_scanned(struct world *w)
     check_within(&w->table, old[SCANNER_STATE_LINES], state[SCANNER_STATE_LINES], "an older line start was written");
     check_within(&w->list, old[SCANNER_STATE_ERRORS] * SCANNER_ERROR_LEN, state[SCANNER_STATE_ERRORS] * SCANNER_ERROR_LEN,
                  "an older error was written");
-    check_within(&w->area, 0, end, "the area was written behind text and value");
+    check_within(&w->area, 0, end, "the area was written after text and value");
     check_kept(&w->tokens, "a scan wrote to the tokens");
     check_kept(&w->answer, "a scan wrote to the answer");
 }
@@ -297,7 +297,7 @@ static struct world copy_of(struct world *w)
     return copy;
 }
 
-/* Whether many scans stop behind a token: it shows something from the area, or is EOF. */
+/* Whether many scans stop after a token: it shows something from the area, or is EOF. */
 static int is_last(const size_t *token)
 {
     return token[SCANNER_TOKEN_TEXT_IN_AREA] != 0 || token[SCANNER_TOKEN_VALUE_IN_AREA] != 0
@@ -393,7 +393,7 @@ static void call_error(struct world *w, size_t index)
     check_query(w, answer, SCANNER_ERROR_LEN);
 }
 
-/* Text or value of a token, whose part stands at an index: it is answered where it lies in its buffer. */
+/* Text or value of a token, whose part starts at an index: it is answered where it lies in its buffer. */
 static void call_part(struct world *w, size_t at)
 {
     const size_t *token = numbers_of(&w->token), *part = numbers_of(&w->answer);

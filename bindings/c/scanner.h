@@ -1,24 +1,27 @@
 /*
- * The recipe scanner for programs in C: Go text to tokens.
+ * The recipe scanner for programs in C and C++: Go text to tokens.
  *
- * Open a source once with scanner_open, then call scanner_scan for one token
- * after the other, or scanner_scan_many for many at a time, up to
- * SCANNER_KIND_EOF. Between calls the scanner keeps nothing: state, line table,
- * error list and text area are the caller's.
+ * This file has the numbers of the scanner, their names, and its plain functions, which allocate
+ * nothing. scanner_struct.h has a `struct scanner` over them, which owns its buffers. README.md,
+ * beside this file, says which of the two to take, and how to build.
  *
- * Each function answers 0, or the number of a refusal. A refused call changes
- * nothing that it was lent, but for the place that refusal 1 carries. After 7, 8
- * or 9 call again with a larger copy of the table, the list or the area.
+ * Open a source once with scanner_open. Then call scanner_scan for one token after the other, or
+ * scanner_scan_many for many at a time, up to SCANNER_KIND_EOF. The library keeps nothing between
+ * calls: state, line table, error list and text area are the caller's.
  *
- * Before all else, each function looks whether its slices of numbers are long
- * enough: a state of SCANNER_STATE_LEN numbers, a token of SCANNER_TOKEN_LEN,
- * room for one token in `tokens`, and in `answer` as many numbers as its comment
- * says. If one is too short, the call is refused with 6 and nothing is written.
- * The table, the list and the area may have any length; the list holds one
- * error for each SCANNER_ERROR_LEN numbers.
+ * Each function answers SCANNER_OK, which is 0, or the number of a refusal. A refused call changes
+ * nothing that it was lent, but for the place that SCANNER_NOT_UTF8 carries. After
+ * SCANNER_TABLE_FULL, SCANNER_LIST_FULL or SCANNER_AREA_FULL, copy the line table, the error list
+ * or the text area to a larger one, and call again.
  *
- * Lengths count elements. No pointer may be NULL, not even where its length is
- * 0, and no two buffers of a call may overlap.
+ * First of all, each function checks that its slices of numbers are long enough: a state of
+ * SCANNER_STATE_LEN numbers, a token of SCANNER_TOKEN_LEN, room for one token in `tokens`, and in
+ * `answer` as many numbers as its comment says. If one is too short, the call is refused with
+ * SCANNER_DOES_NOT_FIT, and nothing is written. Table, list and area may have any length. The list
+ * holds one error for each SCANNER_ERROR_LEN numbers.
+ *
+ * Lengths count elements. No pointer may be NULL, not even where its length is 0, and no two
+ * buffers of a call may overlap.
  */
 #ifndef SCANNER_H
 #define SCANNER_H
@@ -26,10 +29,17 @@
 #include <stddef.h>
 #include <stdint.h>
 
+/* The scanner counts in 64 bits. */
+#if defined(__cplusplus)
+static_assert(sizeof(size_t) == 8, "the scanner counts in 64 bits");
+#elif defined(__STDC_VERSION__) && __STDC_VERSION__ >= 201112L
+_Static_assert(sizeof(size_t) == 8, "the scanner counts in 64 bits");
+#else
+typedef char scanner_counts_in_64_bits[sizeof(size_t) == 8 ? 1 : -1];
+#endif
+
 #ifdef __cplusplus
 extern "C" {
-#else
-_Static_assert(sizeof(size_t) == 8, "the scanner counts in 64 bits");
 #endif
 
 /* The longest source in bytes, and the greatest base + size. */
@@ -43,13 +53,27 @@ _Static_assert(sizeof(size_t) == 8, "the scanner counts in 64 bits");
 #define SCANNER_POSITION_LEN 3
 #define SCANNER_PART_LEN 3
 
+/*
+ * Lengths of line table, error list and text area that always suffice for a source of so many
+ * bytes: with these, a source that was opened is scanned to EOF and no buffer is ever full.
+ *
+ * The table has the first line start, and at most one after each character. A scan records at
+ * most one error, and one that does has read a character. A text is at most one byte longer than
+ * the bytes that it was read from (`017` is shown as `0o17`), and a value is shorter than them.
+ *
+ * Most sources need much less, so it pays to start with less and to grow when one is full.
+ */
+#define SCANNER_TABLE_ENOUGH(bytes) ((bytes) + 1)
+#define SCANNER_LIST_ENOUGH(bytes) (SCANNER_ERROR_LEN * ((bytes) + 1))
+#define SCANNER_AREA_ENOUGH(bytes) (2 * ((bytes) + 1))
+
 /* The numbers of a state. */
 enum scanner_state_index {
     SCANNER_STATE_BASE,     /* the position of offset 0 */
     SCANNER_STATE_SIZE,     /* positions are base to base + size */
     SCANNER_STATE_PLACE,    /* the byte at which the next scan starts */
     SCANNER_STATE_OFFSET,   /* the characters before it */
-    SCANNER_STATE_MARK,     /* not 0: a semicolon may be inserted next; a scan gives 0 or 1 */
+    SCANNER_STATE_MARK,     /* not 0: a semicolon may be inserted next; a scan gives 0, 1 */
     SCANNER_STATE_LINES,    /* line starts in the table */
     SCANNER_STATE_ERRORS    /* errors in the list */
 };
@@ -57,7 +81,7 @@ enum scanner_state_index {
 /* The numbers of a token. A part is in the area unless its flag is 0; a scan gives 0 or 1. */
 enum scanner_token_index {
     SCANNER_TOKEN_KIND,
-    SCANNER_TOKEN_INSERTED, /* 1: a semicolon that does not stand in the source */
+    SCANNER_TOKEN_INSERTED, /* 1: a semicolon that is not written in the source */
     SCANNER_TOKEN_POSITION, /* base + offset of its first character */
     SCANNER_TOKEN_CODE,     /* the code point of a CHAR, else 0 */
     SCANNER_TOKEN_TEXT_IN_AREA,
@@ -77,24 +101,29 @@ enum scanner_place_index {
 };
 
 /*
- * The refusals. 1 to 5 come from the input, 6 to 9 from the state and the buffers.
- * 6 says of what a call is lent: the place lies beyond the source, the offset
- * above the place or the size, base + size is too large, the line count is 0 or
- * above the table, the first start is not 0, the last start or that of the line
- * asked for lies above the offset, the error count above the list, a part of a
- * token outside its buffer; or a slice is too short.
+ * The refusals. Those up to SCANNER_NO_LINE come from the input, the others from the state and the
+ * buffers.
+ *
+ * SCANNER_DOES_NOT_FIT says that what a call is lent does not go together: the place is beyond the
+ * source, the offset above the place or the size, base + size too large, the line count 0 or above
+ * the table, the first start not 0, the last start or that of the line asked for above the offset,
+ * the error count above the list, a part of a token outside its buffer; or a slice is too short.
+ *
+ * The library never answers SCANNER_NO_MEMORY; the functions of scanner_struct.h do.
  */
 enum scanner_refusal {
     SCANNER_OK,
     SCANNER_NOT_UTF8,       /* opening: not UTF-8 */
     SCANNER_TOO_LONG,       /* opening: more than SCANNER_MAX_SOURCE bytes */
-    SCANNER_SIZE,           /* opening: size below the characters, or base + size too large; a scan: past the size */
+    SCANNER_SIZE,           /* opening: size below the characters, or base + size too large;
+                               a scan: past the size */
     SCANNER_POSITION,       /* a position outside base to base + size */
     SCANNER_NO_LINE,        /* line 0, or above the line count */
-    SCANNER_DOES_NOT_FIT,   /* the state or the token is none of these buffers, or a slice is too short */
-    SCANNER_TABLE_FULL,     /* more line starts than the table holds */
-    SCANNER_LIST_FULL,      /* an error and a full list */
-    SCANNER_AREA_FULL       /* more bytes to write than the area holds */
+    SCANNER_DOES_NOT_FIT,   /* state, token and buffers do not go together, or a short slice */
+    SCANNER_TABLE_FULL,     /* more line starts than the line table holds */
+    SCANNER_LIST_FULL,      /* an error and a full error list */
+    SCANNER_AREA_FULL,      /* more bytes to write than the text area holds */
+    SCANNER_NO_MEMORY = 255 /* struct scanner: a buffer could not grow */
 };
 
 /* The errors of a source. */
@@ -202,54 +231,133 @@ enum scanner_kind {
 };
 
 /*
- * Opens a source of Go text: UTF-8, at most SCANNER_MAX_SOURCE bytes. The size
- * is at least its number of characters. The first state goes to `state`, the
- * first line start to `table`, the number of characters to `answer` (1 number);
- * with refusal 1, the place of a byte that belongs to no character goes there.
+ * The name of a kind: operators and keywords as they are written, the others in capitals, as in
+ * SCANNER_KIND_IDENT. A number that is no kind has an empty name.
+ */
+static inline const char *scanner_kind_name(size_t kind)
+{
+    static const char names[SCANNER_KINDS][12] = {
+        "NONE", "ILLEGAL", "EOF", "COMMENT", "IDENT", "INT", "FLOAT", "IMAG", "CHAR", "STRING",
+        "+", "-", "*", "/", "%", "&", "|", "^", "<<", ">>", "&^",
+        "+=", "-=", "*=", "/=", "%=", "&=", "|=", "^=", "<<=", ">>=", "&^=",
+        "&&", "||", "<-", "++", "--", "==", "<", ">", "=", "!",
+        "!=", "<=", ">=", ":=", "...", "(", "[", "{", ",", ".", ")", "]", "}", ";", ":",
+        "break", "case", "chan", "const", "continue", "default", "defer", "else", "fallthrough",
+        "for", "func", "go", "goto", "if", "import", "interface", "map", "package", "range",
+        "return", "select", "struct", "switch", "type", "var"
+    };
+    return kind < SCANNER_KINDS ? names[kind] : "";
+}
+
+/* Whether a kind is IDENT, INT, FLOAT, IMAG, CHAR or STRING. */
+static inline int scanner_kind_is_literal(size_t kind)
+{
+    return SCANNER_KIND_IDENT <= kind && kind <= SCANNER_KIND_STRING;
+}
+
+/* Whether a kind is an operator; brackets, commas and semicolons are. */
+static inline int scanner_kind_is_operator(size_t kind)
+{
+    return SCANNER_KIND_ADD <= kind && kind <= SCANNER_KIND_COLON;
+}
+
+/* Whether a kind is a keyword. */
+static inline int scanner_kind_is_keyword(size_t kind)
+{
+    return SCANNER_KIND_BREAK <= kind && kind <= SCANNER_KIND_VAR;
+}
+
+/* The precedence of a binary operator: 1 to 5, where 5 binds most tightly. Any other kind: 0. */
+static inline int scanner_kind_precedence(size_t kind)
+{
+    switch (kind) {
+    case SCANNER_KIND_LOR:
+        return 1;
+    case SCANNER_KIND_LAND:
+        return 2;
+    case SCANNER_KIND_EQL: case SCANNER_KIND_NEQ: case SCANNER_KIND_LSS:
+    case SCANNER_KIND_LEQ: case SCANNER_KIND_GTR: case SCANNER_KIND_GEQ:
+        return 3;
+    case SCANNER_KIND_ADD: case SCANNER_KIND_SUB: case SCANNER_KIND_OR: case SCANNER_KIND_XOR:
+        return 4;
+    case SCANNER_KIND_MUL: case SCANNER_KIND_QUO: case SCANNER_KIND_REM: case SCANNER_KIND_SHL:
+    case SCANNER_KIND_SHR: case SCANNER_KIND_AND: case SCANNER_KIND_AND_NOT:
+        return 5;
+    default:
+        return 0;
+    }
+}
+
+/* What the number of an error means. */
+static inline const char *scanner_error_text(size_t number)
+{
+    switch (number) {
+    case SCANNER_ERROR_BINARY: return "bad binary number";
+    case SCANNER_ERROR_OCTAL: return "bad octal number";
+    case SCANNER_ERROR_HEXADECIMAL: return "bad hexadecimal number";
+    case SCANNER_ERROR_UNDERSCORE: return "misplaced '_' in a number";
+    case SCANNER_ERROR_EXPONENT: return "the exponent has no digits";
+    case SCANNER_ERROR_RAW_STRING: return "the raw string is not closed";
+    case SCANNER_ERROR_COMMENT: return "the comment is not closed";
+    case SCANNER_ERROR_QUOTE: return "the string or character is not closed";
+    case SCANNER_ERROR_ESCAPE: return "unknown escape";
+    case SCANNER_ERROR_ESCAPE_CUT: return "the text ends inside an escape";
+    case SCANNER_ERROR_ESCAPE_CHAR: return "bad character in an escape";
+    case SCANNER_ERROR_CODE_POINT: return "the escape is no Unicode code point";
+    case SCANNER_ERROR_CHAR: return "the character literal has not exactly one character";
+    default: return "unknown error";
+    }
+}
+
+/* What the number of a refusal means. */
+static inline const char *scanner_refusal_text(size_t number)
+{
+    switch (number) {
+    case SCANNER_OK: return "no refusal";
+    case SCANNER_NOT_UTF8: return "the source is not UTF-8";
+    case SCANNER_TOO_LONG: return "the source is longer than 1,048,576 bytes";
+    case SCANNER_SIZE:
+        return "the size is below the number of characters, or base + size is too large";
+    case SCANNER_POSITION: return "the position is outside the source";
+    case SCANNER_NO_LINE: return "there is no such line";
+    case SCANNER_DOES_NOT_FIT: return "state, source and buffers do not fit together";
+    case SCANNER_TABLE_FULL: return "the line table is full";
+    case SCANNER_LIST_FULL: return "the error list is full";
+    case SCANNER_AREA_FULL: return "the text area is too small";
+    case SCANNER_NO_MEMORY: return "there is not enough memory";
+    default: return "unknown refusal";
+    }
+}
+
+/*
+ * Opens a source of Go text: UTF-8, at most SCANNER_MAX_SOURCE bytes. The size is at least its
+ * number of characters. The first state goes to `state`, the first line start to `table`, the
+ * number of characters to `answer` (1 number). With SCANNER_NOT_UTF8, the place of a byte that
+ * belongs to no character goes there.
  */
 uint8_t scanner_open(const uint8_t *src, size_t src_len, size_t base, size_t size,
                      size_t *table, size_t table_len, size_t *state, size_t state_len,
                      size_t *answer, size_t answer_len);
 
 /*
- * Scans one token: its numbers go to `token`, the next state to `state`. Give
- * the source that was opened, and state, table and list as the call before left
- * them. A text or value that differs from the source is written to the start of
- * `area`, text first, and stands there up to the next scan that is lent this
- * area; later bytes of it stay.
+ * Scans one token: its numbers go to `token`, the next state to `state`. Give the source that was
+ * opened, and state, table and list as the call before left them. A text or value that differs
+ * from the source is written to the start of `area`, the text first. It stays there until the next
+ * scan that is lent this area. The bytes after it are not changed.
  */
 uint8_t scanner_scan(const uint8_t *src, size_t src_len, size_t *state, size_t state_len,
                      size_t *table, size_t table_len, size_t *list, size_t list_len,
                      uint8_t *area, size_t area_len, size_t *token, size_t token_len);
 
 /*
- * Scans token after token, as many as `tokens` has room for at
- * SCANNER_TOKEN_LEN numbers each, and so saves calls. The number of tokens
- * given goes to `answer` (1 number); state and buffers are those that so many
- * calls of scanner_scan leave.
+ * Scans token after token, as many as `tokens` has room for at SCANNER_TOKEN_LEN numbers each, and
+ * so saves calls. The number of tokens given goes to `answer` (1 number). State and buffers are
+ * those that so many calls of scanner_scan leave.
  *
- * It stops behind EOF, behind a token whose text or value stands in the area,
- * since the next scan would write over it, and before a scan that would be
- * refused. That scan is the first of the next call, which is then refused by
- * its number. So a call gives one token or more, or it is refused, gives none
- * and changes nothing:
- *
- *     size_t tokens[256 * SCANNER_TOKEN_LEN], count, i, kind = SCANNER_KIND_NONE;
- *     while (kind != SCANNER_KIND_EOF) {
- *         uint8_t refusal = scanner_scan_many(src, len, state, SCANNER_STATE_LEN, table, table_len,
- *                                             list, list_len, area, area_len,
- *                                             tokens, 256 * SCANNER_TOKEN_LEN, &count, 1);
- *         if (refusal != SCANNER_OK) {
- *             ... (7, 8, 9: enlarge the table, the list or the area, and call again; else give up)
- *             continue;
- *         }
- *         for (i = 0; i < count; i++) {
- *             const size_t *token = tokens + i * SCANNER_TOKEN_LEN;
- *             struct scanner_bytes text = scanner_part(token + SCANNER_TOKEN_TEXT_IN_AREA, src, area);
- *             kind = token[SCANNER_TOKEN_KIND];
- *             ...
- *         }
- *     }
+ * It stops after EOF, after a token whose text or value is in the area, since the next scan would
+ * write over it, and before a scan that would be refused. That scan is the first of the next call,
+ * which is then refused by its number. So a call gives one token or more, or it is refused, gives
+ * none and changes nothing. batches.c, beside this file, is an example.
  */
 uint8_t scanner_scan_many(const uint8_t *src, size_t src_len, size_t *state, size_t state_len,
                           size_t *table, size_t table_len, size_t *list, size_t list_len,
@@ -257,57 +365,59 @@ uint8_t scanner_scan_many(const uint8_t *src, size_t src_len, size_t *state, siz
                           size_t *answer, size_t answer_len);
 
 /*
- * Offset, line and column of a position, in `answer` (SCANNER_POSITION_LEN
- * numbers). Lines are known as far as the source was read.
+ * Offset, line and column of a position, in `answer` (SCANNER_POSITION_LEN numbers). Lines are
+ * known as far as the source was read.
  */
-uint8_t scanner_position(const size_t *state, size_t state_len, const size_t *table, size_t table_len,
+uint8_t scanner_position(const size_t *state, size_t state_len,
+                         const size_t *table, size_t table_len,
                          size_t position, size_t *answer, size_t answer_len);
 
 /* The position at which a line, counted from 1, starts, in `answer` (1 number). */
-uint8_t scanner_line_start(const size_t *state, size_t state_len, const size_t *table, size_t table_len,
+uint8_t scanner_line_start(const size_t *state, size_t state_len,
+                           const size_t *table, size_t table_len,
                            size_t line, size_t *answer, size_t answer_len);
 
 /*
- * Offset, line, column and number of an error, by its index from 0, in `answer`
- * (SCANNER_ERROR_LEN numbers); four zeros past the last.
+ * Offset, line, column and number of an error, by its index from 0, in `answer` (SCANNER_ERROR_LEN
+ * numbers); four zeros past the last.
  */
 uint8_t scanner_error(const size_t *state, size_t state_len, const size_t *list, size_t list_len,
                       size_t index, size_t *answer, size_t answer_len);
 
 /*
- * The text of a token, as a part of the source or of the area, in `answer`
- * (SCANNER_PART_LEN numbers): 1 if it stands in the area, its start, its end.
- * Give the source that was scanned, and the area as the token's own scan left
- * it. The scans give operators, semicolons among them, keywords and EOF an empty
- * text: a part of the source at the place of the token. A part that does not lie
- * in its buffer, as one of a token that no scan gave may not, is refused with 6.
+ * The text of a token, as a part of the source or of the area, in `answer` (SCANNER_PART_LEN
+ * numbers): 1 if it is in the area, its start, its end. Give the source that was scanned, and the
+ * area as the token's own scan left it. Operators (semicolons among them), keywords and EOF have
+ * an empty text: a part of the source at the place of the token. A part that is not inside its
+ * buffer, as one of a token that no scan gave may be, is refused with SCANNER_DOES_NOT_FIT.
  */
 uint8_t scanner_text(const uint8_t *src, size_t src_len, const uint8_t *area, size_t area_len,
                      const size_t *token, size_t token_len, size_t *answer, size_t answer_len);
 
 /*
- * The value of a STRING, likewise; the scans give every other token an empty one.
- * The call looks at the part alone, and not at the kind.
+ * The value of a STRING, likewise; every other token has an empty one. The call looks at the part
+ * alone, and not at the kind.
  */
 uint8_t scanner_value(const uint8_t *src, size_t src_len, const uint8_t *area, size_t area_len,
                       const size_t *token, size_t token_len, size_t *answer, size_t answer_len);
 
-/* Bytes of the source or of the area. They end with no 0. */
+/* Bytes of the source or of the area. No 0 follows them. */
 struct scanner_bytes {
     const uint8_t *start;
     size_t len;
 };
 
 /*
- * The bytes of a part that scanner_text or scanner_value answered. It checks
- * nothing: the part must lie in its buffer. The parts of a token that a scan
- * gave do, in that scan's source and area; so for such a token
+ * The bytes of a part that scanner_text or scanner_value answered. It checks nothing: the part
+ * must be inside its buffer. The parts of a token that a scan gave are, in that scan's source and
+ * area. So for such a token
  *
  *     scanner_part(token + SCANNER_TOKEN_TEXT_IN_AREA, src, area)
  *
  * is its text without a call.
  */
-static inline struct scanner_bytes scanner_part(const size_t *part, const uint8_t *src, const uint8_t *area)
+static inline struct scanner_bytes scanner_part(const size_t *part, const uint8_t *src,
+                                                const uint8_t *area)
 {
     struct scanner_bytes bytes;
     bytes.start = (part[0] != 0 ? area : src) + part[1];

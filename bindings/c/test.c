@@ -1,29 +1,8 @@
-/* The test of scanner.h: listings, refusals, buffers that grow, many scans in one call. */
-#include "scanner.h"
+/* The test of scanner.h: names, listings, refusals, buffers that grow, many scans in one call. */
+#include "check.h"
 
 #include <stdarg.h>
-#include <stdio.h>
 #include <stdlib.h>
-#include <string.h>
-
-static int passed, failed;
-
-static void check(int holds, const char *what)
-{
-    if (holds) {
-        passed++;
-        return;
-    }
-    failed++;
-    printf("failed: %s\n", what);
-}
-
-/* A part of a check: counted only where it fails. */
-static void part(int holds, const char *what)
-{
-    if (!holds)
-        check(0, what);
-}
 
 /* A scanner with its buffers. */
 struct run {
@@ -111,11 +90,6 @@ static struct scanner_bytes text_of(struct run *r, const size_t *token)
 static struct scanner_bytes value_of(struct run *r, const size_t *token)
 {
     return bytes_of(r, token, 1);
-}
-
-static int same(struct scanner_bytes bytes, const char *text)
-{
-    return bytes.len == strlen(text) && memcmp(bytes.start, text, bytes.len) == 0;
 }
 
 /* A listing is gathered here, its lines parted by bars. */
@@ -316,13 +290,13 @@ static void test_area(void)
     for (r.area_len = 1; r.area_len < 4; r.area_len *= 2)
         refuse(&r, SCANNER_AREA_FULL, "9, a small area");
     check(scan(&r) == SCANNER_OK, "a larger area");
-    check(r.token[SCANNER_TOKEN_TEXT_IN_AREA] == 1, "a changed text stands in the area");
+    check(r.token[SCANNER_TOKEN_TEXT_IN_AREA] == 1, "a changed text is in the area");
     check(same(text_of(&r, r.token), "0o17"), "the text in the area");
     check(r.area[4] == 0xaa, "later bytes keep their content");
     start(&r, "`a\r\n`");
     check(scan(&r) == SCANNER_OK && r.token[SCANNER_TOKEN_KIND] == SCANNER_KIND_STRING, "a raw string with a CR");
     check(same(text_of(&r, r.token), "`a\n`"), "its text");
-    check(same(value_of(&r, r.token), "a\n"), "its value, behind the text");
+    check(same(value_of(&r, r.token), "a\n"), "its value, after the text");
     start(&r, "\"ab\"");
     check(scan(&r) == SCANNER_OK && value_of(&r, r.token).start == r.src + 1,
           "a plain value is shown from the source");
@@ -379,7 +353,7 @@ static void test_growth(void)
     free(area);
 }
 
-/* Whether many scans stop behind a token: it shows something from the area, or is EOF. */
+/* Whether many scans stop after a token: it shows something from the area, or is EOF. */
 static int is_last(const size_t *token)
 {
     return token[SCANNER_TOKEN_TEXT_IN_AREA] == 1 || token[SCANNER_TOKEN_VALUE_IN_AREA] == 1
@@ -400,7 +374,7 @@ static uint8_t scan_beside(struct run *r, size_t room)
     part(count > 0 && count <= room / SCANNER_TOKEN_LEN, "a token, and no more than there is room for");
     for (i = 0; i < count && i < room / SCANNER_TOKEN_LEN; i++) {
         part(scan(&one) == SCANNER_OK, "a token that one scan gives, too");
-        part(i + 1 == count || !is_last(one.token), "no token behind one that is the last");
+        part(i + 1 == count || !is_last(one.token), "no token after one that is the last");
         memcpy(one.tokens + i * SCANNER_TOKEN_LEN, one.token, sizeof one.token);
     }
     next = one;
@@ -426,7 +400,7 @@ static size_t read_beside(const char *text, size_t more, size_t room)
         tokens += r.answer[0];
         kind = r.tokens[(r.answer[0] - 1) * SCANNER_TOKEN_LEN + SCANNER_TOKEN_KIND];
     }
-    part(scan_beside(&r, room) == SCANNER_OK && r.answer[0] == 1, "EOF alone behind EOF");
+    part(scan_beside(&r, room) == SCANNER_OK && r.answer[0] == 1, "EOF alone after EOF");
     return tokens;
 }
 
@@ -455,16 +429,16 @@ static void test_stops(void)
 {
     struct run r;
     start(&r, "a \"b\" \"b\\n\" c");
-    check(scan_beside(&r, 2560) == SCANNER_OK && r.answer[0] == 3, "a stop behind an escape");
+    check(scan_beside(&r, 2560) == SCANNER_OK && r.answer[0] == 3, "a stop after an escape");
     check(same(value_of(&r, r.tokens + SCANNER_TOKEN_LEN), "b"), "a value in the source");
     check(same(value_of(&r, r.tokens + 2 * SCANNER_TOKEN_LEN), "b\n"), "a value in the area");
     check(scan_beside(&r, 2560) == SCANNER_OK && r.answer[0] == 3, "c, a semicolon and EOF");
     check(scan_beside(&r, 2560) == SCANNER_OK && r.answer[0] == 1, "EOF again");
     start(&r, "017 018");
-    check(scan_beside(&r, 2560) == SCANNER_OK && r.answer[0] == 1, "a stop behind a changed text");
+    check(scan_beside(&r, 2560) == SCANNER_OK && r.answer[0] == 1, "a stop after a changed text");
     check(same(text_of(&r, r.tokens), "0o17"), "its text");
-    check(scan(&r) == SCANNER_OK && same(text_of(&r, r.token), "0o1"), "one scan goes on behind many");
-    check(scan_beside(&r, 2560) == SCANNER_OK && r.answer[0] == 3, "many go on behind one scan");
+    check(scan(&r) == SCANNER_OK && same(text_of(&r, r.token), "0o1"), "one scan goes on after many");
+    check(scan_beside(&r, 2560) == SCANNER_OK && r.answer[0] == 3, "many go on after one scan");
 }
 
 /* Many scans that give some tokens and stop before one that is refused, again and again. */
@@ -481,23 +455,23 @@ static void test_many_full(void)
     struct run r;
     start(&r, "x +\n\ny");
     r.table_len = 2;
-    refuse_many(&r, 2, SCANNER_TABLE_FULL, "7 behind two tokens");
+    refuse_many(&r, 2, SCANNER_TABLE_FULL, "7 after two tokens");
     r.table_len = 3;
     check(scan_beside(&r, 2560) == SCANNER_OK && r.answer[0] == 3, "on with a larger table");
     check(r.state[SCANNER_STATE_LINES] == 3, "three lines");
     start(&r, "x '' y ''");
     r.list_len = 7;
-    refuse_many(&r, 3, SCANNER_LIST_FULL, "8 behind three tokens");
+    refuse_many(&r, 3, SCANNER_LIST_FULL, "8 after three tokens");
     r.list_len = 8;
     check(scan_beside(&r, 2560) == SCANNER_OK && r.answer[0] == 3, "on with a larger list");
     check(r.state[SCANNER_STATE_ERRORS] == 2, "two errors");
     start(&r, "x + 017 y");
     r.area_len = 3;
-    refuse_many(&r, 2, SCANNER_AREA_FULL, "9 behind two tokens");
+    refuse_many(&r, 2, SCANNER_AREA_FULL, "9 after two tokens");
     r.area_len = 4;
     check(scan_beside(&r, 2560) == SCANNER_OK && r.answer[0] == 1, "on with a larger area");
     check(same(text_of(&r, r.tokens), "0o17"), "the text that had no room");
-    check(scan_beside(&r, 2560) == SCANNER_OK && r.answer[0] == 3, "and behind it");
+    check(scan_beside(&r, 2560) == SCANNER_OK && r.answer[0] == 3, "and after it");
 }
 
 static void test_many_states(void)
@@ -520,10 +494,65 @@ static void test_many_states(void)
     check(scan_beside(&r, 2560) == SCANNER_OK && r.answer[0] == 4, "mended, and read at once");
 }
 
+/* The operators of each precedence, 1 to 5, and other kinds. */
+static void test_precedence(void)
+{
+    static const char *const levels[] = {
+        " || ", " && ", " == != < <= > >= ", " + - | ^ ", " * / % << >> & &^ ",
+    };
+    size_t kind;
+    int level;
+    for (kind = 0; kind < SCANNER_KINDS + 2; kind++) {
+        int expected = 0;
+        char word[16];
+        snprintf(word, sizeof word, " %s ", scanner_kind_name(kind));
+        for (level = 1; level <= 5; level++)
+            if (kind < SCANNER_KINDS && strstr(levels[level - 1], word) != NULL)
+                expected = level;
+        check(scanner_kind_precedence(kind) == expected, word);
+    }
+}
+
+static void test_classes(void)
+{
+    size_t kind;
+    for (kind = 0; kind < SCANNER_KINDS + 2; kind++) {
+        const char *name = scanner_kind_name(kind);
+        int capital = 'A' <= name[0] && name[0] <= 'Z', small = 'a' <= name[0] && name[0] <= 'z';
+        int none = kind >= SCANNER_KINDS;
+        part(scanner_kind_is_literal(kind) == (capital && kind > SCANNER_KIND_COMMENT), name);
+        part(scanner_kind_is_keyword(kind) == small, name);
+        part(scanner_kind_is_operator(kind) == (!none && !capital && !small), name);
+    }
+    check(strcmp(scanner_kind_name(SCANNER_KIND_AND_NOT_ASSIGN), "&^=") == 0, "the name of &^=");
+    check(strcmp(scanner_kind_name(SCANNER_KINDS), "") == 0, "no kind, and no name");
+}
+
+/* Each error and each refusal has a text of its own. */
+static void test_texts(void)
+{
+    size_t i, j;
+    for (i = 0; i <= SCANNER_ERROR_CHAR; i++)
+        for (j = 0; j < i; j++)
+            part(strcmp(scanner_error_text(i), scanner_error_text(j)) != 0, scanner_error_text(i));
+    for (i = 0; i <= SCANNER_AREA_FULL + 1; i++)
+        for (j = 0; j < i; j++)
+            part(strcmp(scanner_refusal_text(i), scanner_refusal_text(j)) != 0,
+                 scanner_refusal_text(i));
+    check(strcmp(scanner_error_text(SCANNER_ERROR_CHAR + 1), "unknown error") == 0, "no error");
+    check(strcmp(scanner_refusal_text(SCANNER_AREA_FULL + 1), "unknown refusal") == 0,
+          "no refusal of the library");
+    check(strcmp(scanner_refusal_text(SCANNER_NO_MEMORY), "there is not enough memory") == 0,
+          "the text of 255");
+}
+
 int main(void)
 {
     check(SCANNER_KINDS == 82 && SCANNER_KIND_VAR == 81 && SCANNER_KIND_SEMICOLON == 55, "82 kinds");
     check(SCANNER_AREA_FULL == 9 && SCANNER_ERROR_CHAR == 13, "9 refusals, 13 errors");
+    test_precedence();
+    test_classes();
+    test_texts();
     test_rows();
     test_opening();
     test_queries();
@@ -537,6 +566,5 @@ int main(void)
     test_stops();
     test_many_full();
     test_many_states();
-    printf("%d passed, %d failed\n", passed, failed);
-    return failed != 0;
+    return counted();
 }
