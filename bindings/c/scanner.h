@@ -296,15 +296,15 @@ static inline const char *scanner_error_text(size_t number)
     case SCANNER_ERROR_OCTAL: return "bad octal number";
     case SCANNER_ERROR_HEXADECIMAL: return "bad hexadecimal number";
     case SCANNER_ERROR_UNDERSCORE: return "misplaced '_' in a number";
-    case SCANNER_ERROR_EXPONENT: return "the exponent has no digits";
-    case SCANNER_ERROR_RAW_STRING: return "the raw string is not closed";
-    case SCANNER_ERROR_COMMENT: return "the comment is not closed";
-    case SCANNER_ERROR_QUOTE: return "the string or character is not closed";
+    case SCANNER_ERROR_EXPONENT: return "exponent has no digits";
+    case SCANNER_ERROR_RAW_STRING: return "raw string is not closed";
+    case SCANNER_ERROR_COMMENT: return "comment is not closed";
+    case SCANNER_ERROR_QUOTE: return "string or character is not closed";
     case SCANNER_ERROR_ESCAPE: return "unknown escape";
-    case SCANNER_ERROR_ESCAPE_CUT: return "the text ends inside an escape";
+    case SCANNER_ERROR_ESCAPE_CUT: return "text ends inside an escape";
     case SCANNER_ERROR_ESCAPE_CHAR: return "bad character in an escape";
-    case SCANNER_ERROR_CODE_POINT: return "the escape is no Unicode code point";
-    case SCANNER_ERROR_CHAR: return "the character literal has not exactly one character";
+    case SCANNER_ERROR_CODE_POINT: return "escape is not a Unicode code point";
+    case SCANNER_ERROR_CHAR: return "character literal must hold exactly one character";
     default: return "unknown error";
     }
 }
