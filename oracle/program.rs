@@ -1,16 +1,19 @@
-// Runs the program `tokens` over the recorded inputs whose size is their number of bytes, and over
-// texts at its limits. It must print the recorded answer: the original's (oracle/recorded.txt) or,
-// where the two differ, ours (oracle/ours.txt). Status 1: it prints something else.
+//! Runs the program `tokens` over the recorded inputs whose size is their number of bytes, and over
+//! texts at its limits. What it prints is the recorded answer: the original's (oracle/recorded.txt),
+//! or where they differ ours (oracle/ours.txt). With `--names` it prints the same for people, as
+//! docs/LISTING.md describes it. Status 1: it does not.
 mod listing;
+mod names;
 mod recorded;
 
+use names::Names;
 use std::io::Write;
 use std::process::{Command, Stdio};
 
 const LONGEST: usize = 65_536;
 
-fn printed(program: &str, text: &[u8]) -> std::io::Result<String> {
-    let mut child = Command::new(program).stdin(Stdio::piped()).stdout(Stdio::piped()).spawn()?;
+fn printed(program: &str, words: &[&str], text: &[u8]) -> std::io::Result<String> {
+    let mut child = Command::new(program).args(words).stdin(Stdio::piped()).stdout(Stdio::piped()).spawn()?;
     child.stdin.take().expect("it is piped").write_all(text)?;
     Ok(String::from_utf8_lossy(&child.wait_with_output()?.stdout).into_owned())
 }
@@ -37,7 +40,8 @@ fn limits() -> [(Vec<u8>, &'static str); 8] {
 
 fn main() {
     let program = std::env::args().nth(1).expect("usage: program TOKENS");
-    let run = |text: &[u8]| printed(&program, text).unwrap_or_else(|e| panic!("{program}: {e}"));
+    let run = |words: &[&str], text: &[u8]| printed(&program, words, text).unwrap_or_else(|e| panic!("{program}: {e}"));
+    let names = Names::read();
     let (cases, others) = (recorded::read("oracle/recorded.txt"), recorded::read("oracle/ours.txt"));
     let others = recorded::by_input(&others);
     let (mut passed, mut failed) = (0, 0);
@@ -53,13 +57,16 @@ fn main() {
         let (size, bytes) = case.input();
         if size == bytes.len() && size <= LONGEST {
             let expected = others.get(case.input.as_str()).copied().unwrap_or(case);
-            let answer = run(&bytes);
+            let (answer, named) = (run(&[], &bytes), run(&["--names"], &bytes));
             count(&case.input, &answer, answer == expected.answer);
+            count(&case.input, &named, named == names.listing(&answer, &bytes));
         }
     }
     for (text, end) in limits() {
-        let answer = run(&text);
-        count(&format!("{} bytes that end in {end:?}", text.len()), &answer, answer.ends_with(end));
+        let (answer, named) = (run(&[], &text), run(&["--names"], &text));
+        let input = format!("{} bytes that end in {end:?}", text.len());
+        count(&input, &answer, answer.ends_with(end));
+        count(&input, &named, named == names.listing(&answer, &text));
     }
     println!("{passed} passed, {failed} failed");
     std::process::exit(i32::from(failed > 0));
