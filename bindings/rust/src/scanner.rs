@@ -2,212 +2,247 @@
 
 use crate::buffers::Buffers;
 use crate::ffi;
+use crate::foreign::foreign;
+use crate::lines::Lines;
 use crate::numbers::{Numbers, Part};
-use crate::{Batch, Error, Kind, Pos, Position, Refusal, Token, Tokens};
+use crate::{Batch, Errors, Pos, Position, Refusal, Token, Tokens};
 use std::borrow::Cow;
+use std::fmt;
+use std::ops::Range;
 
 /// Reads a source token by token.
-#[derive(Clone, Debug)]
+///
+/// There are three ways to read on, and they can be mixed:
+///
+/// - [`tokens`](Scanner::tokens): an iterator up to EOF. Take this one, unless there is a reason for another.
+/// - [`scan`](Scanner::scan): one token at a call, EOF too. It suits a parser that asks for the next token.
+/// - [`batch`](Scanner::batch): up to 256 tokens at a call, lent. It is the fastest.
+///
+/// The scanner owns the line table, the error list and the text area, and enlarges them as needed. So a source that was
+/// opened is scanned to its end, and scanning returns no `Result`.
+///
+/// # Panics
+///
+/// What the library answers is tested. The proved library passes each test; if another library was linked in its place,
+/// a method of the scanner or of what it gives may panic and say so. They panic for no other reason.
+#[derive(Clone)]
 pub struct Scanner<'src> {
-    source: &'src [u8],
+    source: &'src str,
     chars: usize,
     state: ffi::State,
-    token: ffi::Token,
     buffers: Buffers,
+    /// The line of the last token that was given with its line. Later tokens are on this line or on one after it.
+    line: usize,
+    /// The bytes that the last token in the area was read from.
+    changed: Range<usize>,
 }
 
-// The numbers of a state.
-const BASE: usize = 0;
-const SIZE: usize = 1;
-const LINES: usize = 5;
-const ERRORS: usize = 6;
-
+/// Opening and scanning.
 impl<'src> Scanner<'src> {
     /// The longest source in bytes.
     pub const MAX_SOURCE: usize = 1_048_576;
 
+    /// The greatest position: base + size is at most this.
+    pub const MAX_POSITION: Pos = 4_294_967_295;
+
     /// The most tokens of a batch.
     pub const MAX_BATCH: usize = 256;
 
-    /// Opens a source at base 0, in a size of its number of characters.
+    /// Opens a source at base 0. The size is its number of characters.
     ///
-    /// The size says how far positions go. A line feed at the very end then starts no line; with a larger size,
-    /// by [`Scanner::with_size`], it does.
-    pub fn new(source: &'src [u8]) -> Result<Scanner<'src>, Refusal> {
-        let scanner = Scanner::with_size(source, 0, source.len())?;
-        let chars = scanner.chars;
-        if chars == source.len() {
-            return Ok(scanner);
+    /// The source may be text (`&str`, `&String`) or bytes (`&[u8]`, `&Vec<u8>`, `b".."`).
+    ///
+    /// ```
+    /// # use cifgwezam::{Refusal, Scanner};
+    /// assert!(Scanner::new("lane := 3").is_ok());
+    /// assert!(Scanner::new(b"lane := 3").is_ok());
+    /// assert_eq!(Scanner::new(b"lane := \xff").err(), Some(Refusal::NotUtf8 { place: 8 }));
+    /// ```
+    pub fn new(source: &'src (impl AsRef<[u8]> + ?Sized)) -> Result<Scanner<'src>, Refusal> {
+        let source = source.as_ref();
+        let mut scanner = Scanner::unopened(source);
+        scanner.open(source, 0, source.len())?;
+        if scanner.chars < source.len() {
+            scanner.open(source, 0, scanner.chars)?;
         }
-        Scanner::with_size(source, 0, chars)
-    }
-
-    /// Opens a source at a base: its positions are `base` to `base + size`. The size is at least the number of
-    /// characters.
-    pub fn with_size(source: &'src [u8], base: Pos, size: usize) -> Result<Scanner<'src>, Refusal> {
-        let mut scanner = Scanner {
-            source,
-            chars: 0,
-            state: [0; 7],
-            token: [0; 10],
-            buffers: Buffers::new(source.len().min(Self::MAX_SOURCE)),
-        };
-        let table = &mut scanner.buffers.table;
-        let mut answer = 0;
-        let number = ffi::open(source, base, size, table, &mut scanner.state, &mut answer);
-        if answer > source.len() {
-            return Err(Refusal::DoesNotFit);
-        }
-        if number != 0 {
-            return Err(Refusal::of(number, answer));
-        }
-        scanner.chars = answer;
         Ok(scanner)
     }
 
-    /// Scans the next token, and gives it with the position of its first character. Behind the last token comes
-    /// EOF, again and again.
-    #[inline]
-    pub fn scan(&mut self) -> Result<(Token<'src>, Pos), Refusal> {
-        self.advance()?;
-        let token = self.token_of(self.last())?;
-        Ok((token, self.pos()))
+    /// Opens a source at a base and in a size: its positions are `base` to `base + size`. The size is at least the number of
+    /// characters.
+    ///
+    /// An LF at the very end of a source starts no line where the size is the number of characters. In a larger size it
+    /// does.
+    ///
+    /// ```
+    /// # use cifgwezam::Scanner;
+    /// let mut scanner = Scanner::with_size("lane\n", 100, 6)?;
+    /// assert_eq!(scanner.tokens().map(|token| token.pos).collect::<Vec<_>>(), [100, 104]);
+    /// assert_eq!(scanner.line_count(), 2);
+    /// # Ok::<(), cifgwezam::Refusal>(())
+    /// ```
+    pub fn with_size(
+        source: &'src (impl AsRef<[u8]> + ?Sized),
+        base: Pos,
+        size: usize,
+    ) -> Result<Scanner<'src>, Refusal> {
+        let source = source.as_ref();
+        let mut scanner = Scanner::unopened(source);
+        scanner.open(source, base, size)?;
+        Ok(scanner)
     }
 
-    /// Scans the next token, and gives its kind alone. The rest of it is asked for after that: [`Scanner::pos`],
-    /// [`Scanner::text`], [`Scanner::value`], [`Scanner::code`], [`Scanner::inserted`]. Nothing is ever copied.
+    /// Scans the next token. After the last token comes EOF, again and again.
     ///
     /// ```
     /// # use cifgwezam::{Kind, Scanner};
-    /// let mut scanner = Scanner::new(b"017 + x")?;
-    /// assert_eq!(scanner.advance()?, Kind::Int);
-    /// assert_eq!((scanner.pos(), scanner.text()?), (0, &b"0o17"[..]));
-    /// assert_eq!(scanner.advance()?, Kind::Add);
+    /// let mut scanner = Scanner::new("lane")?;
+    /// assert_eq!(scanner.scan().kind, Kind::Ident);
+    /// assert_eq!(scanner.scan().kind, Kind::Semicolon);
+    /// assert_eq!(scanner.scan().kind, Kind::Eof);
+    /// assert_eq!(scanner.scan().kind, Kind::Eof);
     /// # Ok::<(), cifgwezam::Refusal>(())
     /// ```
     #[inline]
-    pub fn advance(&mut self) -> Result<Kind, Refusal> {
-        match self.call() {
-            0 => {}
-            number => self.repeat(number)?,
-        }
-        self.last().kind()
-    }
-
-    /// Scans up to [`Scanner::MAX_BATCH`] tokens in one call, which takes less time than a call for each, and lends
-    /// them: an iterator, with one token at least. It ends behind EOF, and early behind a token whose text or value is
-    /// no part of the source, since the next one may need the same room, and before a token for which a buffer has to
-    /// grow. Behind EOF a batch is EOF alone, again and again.
-    ///
-    /// The scanner is then behind the last token of the batch, however many of them were looked at: the next scan or
-    /// batch goes on there, [`Scanner::pos`] and its like tell of that token, and line count, lines of positions and
-    /// errors are those of the whole batch. [`Batch::scanner`] answers questions while the batch is in use.
-    ///
-    /// ```
-    /// # use cifgwezam::{Kind, Scanner};
-    /// let mut scanner = Scanner::new(b"quota[x] += 017 // reads")?;
-    /// let mut names = Vec::new();
-    /// let mut last = Kind::None;
-    /// while last != Kind::Eof {
-    ///     for token in scanner.batch()? {
-    ///         last = token.kind()?;
-    ///         if last == Kind::Ident {
-    ///             names.push((token.pos(), token.text()?.to_vec()));
-    ///         }
-    ///     }
-    /// }
-    /// assert_eq!(names, [(0, b"quota".to_vec()), (6, b"x".to_vec())]);
-    /// # Ok::<(), cifgwezam::Refusal>(())
-    /// ```
-    pub fn batch(&mut self) -> Result<Batch<'_, 'src>, Refusal> {
-        if self.buffers.tokens.is_empty() {
-            self.buffers.tokens = vec![[0; 10]; Self::MAX_BATCH];
-        }
-        let mut given = 0;
+    pub fn scan(&mut self) -> Token<'src> {
+        let before = self.state[ffi::PLACE];
+        let mut token = [0; 10];
         loop {
-            match self.call_many(&mut given) {
+            let Buffers { table, list, area, .. } = &mut self.buffers;
+            match ffi::scan(self.source.as_bytes(), &mut self.state, table, list, area, &mut token) {
                 0 => break,
-                number => self.buffers.grow(Refusal::of(number, 0))?,
+                refusal => self.buffers.grow(refusal),
             }
         }
-        let tokens = self.buffers.tokens.get(..given).ok_or(Refusal::DoesNotFit)?;
-        self.token = *tokens.last().ok_or(Refusal::DoesNotFit)?;
-        Ok(Batch::new(self, &self.buffers.tokens[..given]))
+        let numbers = Numbers(&token);
+        if numbers.text().in_area {
+            self.note_changed(before);
+        }
+        let token = self.next_token(numbers);
+        self.line = token.position.line;
+        token
     }
 
-    /// The position of the last token's first character; 0 before the first scan.
-    #[inline]
-    pub fn pos(&self) -> Pos {
-        self.last().pos()
-    }
-
-    /// The text of the last token, as [`Token::text`].
-    #[inline]
-    pub fn text(&self) -> Result<&[u8], Refusal> {
-        self.lent(self.last().text())
-    }
-
-    /// The value of the last token, as [`Token::value`].
-    #[inline]
-    pub fn value(&self) -> Result<&[u8], Refusal> {
-        self.lent(self.last().value())
-    }
-
-    /// The character of the last token, as [`Token::code`].
-    #[inline]
-    pub fn code(&self) -> Result<Option<char>, Refusal> {
-        self.last().code()
-    }
-
-    /// Whether the last token is a semicolon that does not stand in the source.
-    #[inline]
-    pub fn inserted(&self) -> bool {
-        self.last().inserted()
-    }
-
-    /// The tokens that are left, each with its position, up to EOF, which is not among them.
+    /// The tokens that are left, up to EOF, which is not among them.
+    ///
+    /// The iterator scans in batches, so it is faster than [`scan`](Scanner::scan). The scanner still is where the tokens
+    /// that were given end: if the iterator is dropped early, it goes back to there, and the next call goes on after the
+    /// last token that was given.
+    ///
+    /// ```
+    /// # use cifgwezam::{Kind, Scanner};
+    /// let mut scanner = Scanner::new("lane := 3 // of 8")?;
+    /// for token in scanner.tokens() {
+    ///     if token.kind == Kind::Define {
+    ///         break;
+    ///     }
+    /// }
+    /// assert_eq!(scanner.scan().text, "3");
+    /// # Ok::<(), cifgwezam::Refusal>(())
+    /// ```
     pub fn tokens(&mut self) -> Tokens<'_, 'src> {
         Tokens::new(self)
     }
 
+    /// Scans up to [`Scanner::MAX_BATCH`] tokens in one call and lends them: an iterator with at least one token. It copies
+    /// nothing.
+    ///
+    /// A batch ends after EOF, after a token whose text or value differs from the source, and where a buffer has to
+    /// grow. After EOF each batch is EOF alone.
+    ///
+    /// The scanner is then after the last token of the batch, however many of them were looked at. So its line count and
+    /// its errors are those of the whole batch.
+    ///
+    /// ```
+    /// # use cifgwezam::{Kind, Scanner};
+    /// let mut scanner = Scanner::new("quota[x] += 017 // reads")?;
+    /// let mut names = Vec::new();
+    /// let mut last = Kind::None;
+    /// while last != Kind::Eof {
+    ///     for token in scanner.batch() {
+    ///         last = token.kind();
+    ///         if last == Kind::Ident {
+    ///             names.push(token.text().to_string());
+    ///         }
+    ///     }
+    /// }
+    /// assert_eq!(names, ["quota", "x"]);
+    /// # Ok::<(), cifgwezam::Refusal>(())
+    /// ```
+    pub fn batch(&mut self) -> Batch<'_, 'src> {
+        let given = self.fill(Self::MAX_BATCH);
+        Batch::new(self, &self.buffers.tokens[..given])
+    }
+}
+
+/// What is known of the source and of what was scanned.
+impl<'src> Scanner<'src> {
     /// The errors of what was scanned, in order.
-    pub fn errors(&self) -> Result<Vec<Error>, Refusal> {
-        (0..self.error_count()).map(|index| self.error(index)).collect()
+    ///
+    /// ```
+    /// # use cifgwezam::Scanner;
+    /// let mut scanner = Scanner::new("quota := 08\nlane = '")?;
+    /// assert_eq!(scanner.tokens().count(), 8);
+    /// for error in scanner.errors() {
+    ///     eprintln!("{error}");
+    /// }
+    /// assert_eq!(scanner.errors().len(), 2);
+    /// # Ok::<(), cifgwezam::Refusal>(())
+    /// ```
+    pub fn errors(&self) -> Errors<'_> {
+        Errors::new(&self.state, &self.buffers.list)
     }
 
     /// How many errors there are so far.
     pub fn error_count(&self) -> usize {
-        self.state[ERRORS]
+        self.state[ffi::ERRORS]
     }
 
     /// The offset, line and column of a position. Lines are known as far as the source was scanned.
+    ///
+    /// It is refused if the position is not one of base to base + size.
+    ///
+    /// ```
+    /// # use cifgwezam::{Refusal, Scanner};
+    /// let mut scanner = Scanner::new("lane\nquota")?;
+    /// assert_eq!(scanner.position(6)?.to_string(), "1:7");
+    /// while scanner.tokens().next().is_some() {}
+    /// assert_eq!(scanner.position(6)?.to_string(), "2:2");
+    /// assert_eq!(scanner.position(11), Err(Refusal::Position));
+    /// # Ok::<(), cifgwezam::Refusal>(())
+    /// ```
     pub fn position(&self, pos: Pos) -> Result<Position, Refusal> {
-        let mut answer = [0; 3];
-        given(ffi::position(&self.state, &self.buffers.table, pos, &mut answer))?;
-        let [offset, line, column] = answer;
-        Ok(Position { offset, line, column })
+        match self.offset(pos) {
+            Some(offset) => Ok(self.lines().position(offset)),
+            None => Err(Refusal::Position),
+        }
     }
 
-    /// The position at which a line, counted from 1, starts.
+    /// The position at which a line starts. Lines count from 1, and are known as far as the source was scanned.
+    ///
+    /// It is refused if the line is 0 or above the line count.
     pub fn line_start(&self, line: usize) -> Result<Pos, Refusal> {
         let mut answer = 0;
-        given(ffi::line_start(&self.state, &self.buffers.table, line, &mut answer))?;
-        Ok(answer)
+        match ffi::line_start(&self.state, &self.buffers.table, line, &mut answer) {
+            0 => Ok(answer),
+            _ if line == 0 || line > self.line_count() => Err(Refusal::Line),
+            _ => foreign("a refusal of a line that was read"),
+        }
     }
 
     /// How many lines were begun so far.
     pub fn line_count(&self) -> usize {
-        self.state[LINES]
+        self.state[ffi::LINES]
     }
 
     /// The position of the first character.
     pub fn base(&self) -> Pos {
-        self.state[BASE]
+        self.state[ffi::BASE]
     }
 
     /// How far positions go beyond the base.
     pub fn size(&self) -> usize {
-        self.state[SIZE]
+        self.state[ffi::SIZE]
     }
 
     /// The number of characters of the source.
@@ -216,82 +251,231 @@ impl<'src> Scanner<'src> {
     }
 
     /// The source.
-    pub fn source(&self) -> &'src [u8] {
+    pub fn source(&self) -> &'src str {
         self.source
     }
+}
 
-    /// One call of the library.
-    #[inline]
-    fn call(&mut self) -> u8 {
-        let Buffers { table, list, area, .. } = &mut self.buffers;
-        ffi::scan(self.source, &mut self.state, table, list, area, &mut self.token)
-    }
-
-    /// One call for the tokens of a batch, and how many it gave.
-    fn call_many(&mut self, given: &mut usize) -> u8 {
-        let Buffers { table, list, area, tokens, .. } = &mut self.buffers;
-        ffi::scan_many(self.source, &mut self.state, table, list, area, tokens, given)
-    }
-
-    /// Repeats a refused call with larger buffers.
-    #[cold]
-    fn repeat(&mut self, mut number: u8) -> Result<(), Refusal> {
-        while number != 0 {
-            self.buffers.grow(Refusal::of(number, 0))?;
-            number = self.call();
+/// What this crate needs inside.
+impl<'src> Scanner<'src> {
+    /// A scanner with buffers for a source that is not opened yet.
+    fn unopened(source: &[u8]) -> Scanner<'src> {
+        Scanner {
+            source: "",
+            chars: 0,
+            state: [0; 7],
+            buffers: Buffers::new(source.len().min(Self::MAX_SOURCE)),
+            line: 1,
+            changed: 0..0,
         }
+    }
+
+    fn open(&mut self, source: &'src [u8], base: Pos, size: usize) -> Result<(), Refusal> {
+        let mut answer = 0;
+        match ffi::open(source, base, size, &mut self.buffers.table, &mut self.state, &mut answer) {
+            0 => {}
+            1 => return Err(Refusal::NotUtf8 { place: answer }),
+            2 => return Err(Refusal::TooLong),
+            3 => return Err(Refusal::Size),
+            _ => foreign("a refusal to open"),
+        }
+        match std::str::from_utf8(source) {
+            Ok(text) => self.source = text,
+            Err(_) => foreign("that bytes are UTF-8 which are not"),
+        }
+        self.chars = answer;
         Ok(())
     }
 
-    /// The numbers of the last token.
-    #[inline]
-    fn last(&self) -> Numbers<'_> {
-        Numbers(&self.token)
-    }
-
-    /// A token to keep, while its text and value stand where its scan left them.
-    #[inline]
-    pub(crate) fn token_of(&self, numbers: Numbers) -> Result<Token<'src>, Refusal> {
-        Ok(Token {
-            kind: numbers.kind()?,
-            inserted: numbers.inserted(),
-            text: self.kept(numbers.text())?,
-            value: self.kept(numbers.value())?,
-            code: numbers.code()?,
-        })
-    }
-
-    /// A text or value to keep: a part of the source, or a copy from the area.
-    #[inline]
-    fn kept(&self, part: Part) -> Result<Cow<'src, [u8]>, Refusal> {
-        if part.in_area {
-            return part.of(&self.buffers.area).map(copied);
+    /// Scans up to so many tokens into the buffer; gives how many there are, which is at least one.
+    pub(crate) fn fill(&mut self, room: usize) -> usize {
+        if self.buffers.tokens.is_empty() {
+            self.buffers.make_room(Self::MAX_BATCH);
         }
-        part.of(self.source).map(Cow::Borrowed)
+        let room = room.min(self.buffers.tokens.len());
+        let before = self.state[ffi::PLACE];
+        let mut given = 0;
+        loop {
+            let Buffers { table, list, area, tokens, .. } = &mut self.buffers;
+            let tokens = &mut tokens[..room];
+            match ffi::scan_many(self.source.as_bytes(), &mut self.state, table, list, area, tokens, &mut given) {
+                0 => break,
+                refusal => self.buffers.grow(refusal),
+            }
+        }
+        match self.buffers.tokens[..room].get(..given) {
+            Some([others @ .., last]) => {
+                if Numbers(last).text().in_area {
+                    let before = others.last().map_or(before, |token| Numbers(token).range().end);
+                    self.note_changed(before);
+                }
+            }
+            _ => foreign("an impossible number of tokens"),
+        }
+        given
     }
 
-    /// A text or value where it stands.
+    /// Notes the bytes of a token in the area, which is the last of its call. It ends where the call ended, and starts at
+    /// the first byte after the token before it that is not a blank.
+    #[cold]
+    fn note_changed(&mut self, before: usize) {
+        let end = self.state[ffi::PLACE];
+        match self.source.as_bytes().get(before..end) {
+            Some(read) => {
+                let blanks = read.iter().take_while(|byte| b" \t\r\n".contains(byte)).count();
+                self.changed = before + blanks..end;
+            }
+            None => foreign("a place outside the source"),
+        }
+    }
+
     #[inline]
-    pub(crate) fn lent(&self, part: Part) -> Result<&[u8], Refusal> {
-        part.of(if part.in_area { &self.buffers.area } else { self.source })
+    pub(crate) fn state(&self) -> &ffi::State {
+        &self.state
     }
 
-    fn error(&self, index: usize) -> Result<Error, Refusal> {
-        let mut answer = [0; 4];
-        given(ffi::error(&self.state, &self.buffers.list, index, &mut answer))?;
-        Error::of(answer).ok_or(Refusal::DoesNotFit)
+    /// Goes back to the state before a batch, and scans the first tokens of it again, fewer than it had. These are the
+    /// same ones, and none of them has its text or value in the area, since a batch ends after one that has.
+    pub(crate) fn go_back(&mut self, before: ffi::State, count: usize) {
+        self.state = before;
+        if count > 0 && self.fill(count) != count {
+            foreign("other tokens to the same call")
+        }
+    }
+
+    /// The token of the buffer with an index, which is the next one to be given; none if it is EOF.
+    #[inline]
+    pub(crate) fn give(&mut self, index: usize) -> Option<Token<'src>> {
+        let numbers = Numbers(&self.buffers.tokens[index]);
+        if numbers.is_eof() {
+            return None;
+        }
+        let token = self.next_token(numbers);
+        self.line = token.position.line;
+        Some(token)
+    }
+
+    /// The token with these numbers, which is after the last one that was given.
+    #[inline]
+    fn next_token(&self, numbers: Numbers) -> Token<'src> {
+        let position = self.lines().position_from(self.line, self.token_offset(numbers));
+        self.token_at(numbers, position)
+    }
+
+    /// A token to keep, as long as its text and value are where its scan left them.
+    #[inline]
+    pub(crate) fn token_at(&self, numbers: Numbers, position: Position) -> Token<'src> {
+        Token {
+            kind: numbers.kind(),
+            inserted: numbers.inserted(),
+            pos: numbers.pos(),
+            position,
+            range: self.range(numbers),
+            text: self.kept_text(numbers.text()),
+            value: self.kept_value(numbers.value()),
+            code: numbers.code(),
+        }
+    }
+
+    /// Where a token is, by halves.
+    #[inline]
+    pub(crate) fn token_position(&self, numbers: Numbers) -> Position {
+        self.lines().position(self.token_offset(numbers))
+    }
+
+    /// The bytes that a token was read from.
+    #[inline]
+    pub(crate) fn range(&self, numbers: Numbers) -> Range<usize> {
+        if numbers.text().in_area {
+            return self.changed.clone();
+        }
+        numbers.range()
+    }
+
+    /// A text where it is.
+    #[inline]
+    pub(crate) fn text(&self, part: Part) -> &str {
+        if part.in_area {
+            return self.text_in_area(part);
+        }
+        part.of_text(self.source)
+    }
+
+    /// A value where it is.
+    #[inline]
+    pub(crate) fn value(&self, part: Part) -> &[u8] {
+        part.of(if part.in_area { &self.buffers.area } else { self.source.as_bytes() })
+    }
+
+    #[inline]
+    fn kept_text(&self, part: Part) -> Cow<'src, str> {
+        if part.in_area {
+            return copied(self.text_in_area(part));
+        }
+        Cow::Borrowed(part.of_text(self.source))
+    }
+
+    #[inline]
+    fn kept_value(&self, part: Part) -> Cow<'src, [u8]> {
+        if part.in_area {
+            return copied(part.of(&self.buffers.area));
+        }
+        Cow::Borrowed(part.of(self.source.as_bytes()))
+    }
+
+    #[cold]
+    fn text_in_area(&self, part: Part) -> &str {
+        match std::str::from_utf8(part.of(&self.buffers.area)) {
+            Ok(text) => text,
+            Err(_) => foreign("a text that is not UTF-8"),
+        }
+    }
+
+    /// The line starts that are known.
+    #[inline]
+    fn lines(&self) -> Lines<'_> {
+        match self.buffers.table.get(..self.state[ffi::LINES]) {
+            Some(starts) => Lines(starts),
+            None => foreign("more lines than the table holds"),
+        }
+    }
+
+    /// The offset of a position, if it is one of the source.
+    #[inline]
+    fn offset(&self, pos: Pos) -> Option<usize> {
+        let offset = pos.wrapping_sub(self.base());
+        (offset <= self.size()).then_some(offset)
+    }
+
+    #[inline]
+    fn token_offset(&self, numbers: Numbers) -> usize {
+        match self.offset(numbers.pos()) {
+            Some(offset) => offset,
+            None => foreign("a token outside the source"),
+        }
+    }
+
+    #[cfg(test)]
+    pub(crate) fn state_and_table(&self) -> (&ffi::State, &[usize]) {
+        (&self.state, &self.buffers.table)
     }
 }
 
 #[cold]
-fn copied<'a>(bytes: &[u8]) -> Cow<'a, [u8]> {
-    Cow::Owned(bytes.to_vec())
+fn copied<'a, T: ToOwned + ?Sized>(part: &T) -> Cow<'a, T> {
+    Cow::Owned(part.to_owned())
 }
 
-/// Nothing, or the refusal with a number.
-fn given(number: u8) -> Result<(), Refusal> {
-    match number {
-        0 => Ok(()),
-        _ => Err(Refusal::of(number, 0)),
+/// How far the scanner is; what is in its buffers is not shown.
+impl fmt::Debug for Scanner<'_> {
+    fn fmt(&self, f: &mut fmt::Formatter<'_>) -> fmt::Result {
+        f.debug_struct("Scanner")
+            .field("source", &self.source)
+            .field("base", &self.base())
+            .field("size", &self.size())
+            .field("place", &self.state[ffi::PLACE])
+            .field("line_count", &self.line_count())
+            .field("error_count", &self.error_count())
+            .finish_non_exhaustive()
     }
 }
