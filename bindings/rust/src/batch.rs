@@ -83,7 +83,7 @@ impl<'a, 'src> Lent<'a, 'src> {
     /// The offset, line and column of its first character. The line is searched for by halves.
     #[inline]
     pub fn position(self) -> Position {
-        self.scanner.token_position(self.numbers)
+        self.scanner.position_on(self.scanner.line_of(self.numbers), self.numbers)
     }
 
     /// The bytes of the source that it was read from, as [`Token::range`].
@@ -112,7 +112,7 @@ impl<'a, 'src> Lent<'a, 'src> {
 
     /// The token as [`Scanner::scan`] gives it, which outlives the batch.
     pub fn keep(self) -> Token<'src> {
-        self.scanner.token_at(self.numbers, self.position())
+        self.scanner.token_on(self.scanner.line_of(self.numbers), self.numbers)
     }
 }
 

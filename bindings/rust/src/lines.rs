@@ -8,25 +8,24 @@ use crate::Position;
 pub struct Lines<'a>(pub &'a [usize]);
 
 impl Lines<'_> {
-    /// Offset, line and column of an offset, by halves.
+    /// The line of an offset, by halves.
     #[inline]
-    pub fn position(self, offset: usize) -> Position {
-        let line = self.0.partition_point(|start| *start <= offset);
-        self.on(line, offset)
+    pub fn find(self, offset: usize) -> usize {
+        self.0.partition_point(|start| *start <= offset)
     }
 
-    /// The same, going on from a line, which is not after that of the offset.
+    /// The line of an offset, going on from a line that is not after it.
     #[inline]
-    pub fn position_from(self, mut line: usize, offset: usize) -> Position {
+    pub fn find_from(self, mut line: usize, offset: usize) -> usize {
         while self.0.get(line).is_some_and(|start| *start <= offset) {
             line += 1;
         }
-        self.on(line, offset)
+        line
     }
 
     /// The position of an offset that is on a line.
     #[inline]
-    fn on(self, line: usize, offset: usize) -> Position {
+    pub fn position(self, line: usize, offset: usize) -> Position {
         match self.0.get(line.wrapping_sub(1)) {
             Some(start) => Position { offset, line, column: offset.wrapping_sub(*start) + 1 },
             None => foreign("a line table without a first line"),
@@ -50,15 +49,17 @@ mod tests {
         }
     }
 
-    /// Compares on every position and those next to them; gives how many there are.
+    /// Compares on every position and those next to them; gives how many there are. A size may be very large: of it the
+    /// first and the last positions are taken.
     fn check_positions(scanner: &Scanner) -> usize {
         let (first, last) = (scanner.base(), scanner.base() + scanner.size());
-        for pos in first.saturating_sub(2)..=last + 2 {
+        let near = last.min(first + scanner.char_count() + 40);
+        for pos in (first.saturating_sub(2)..=near).chain(last.saturating_sub(2)..=last + 2) {
             let found = scanner.position(pos);
             assert_eq!(found.map_err(Refusal::number), proved(scanner, pos), "{pos} of {scanner:?}");
             assert_eq!(found.is_ok(), (first..=last).contains(&pos));
         }
-        last - first + 1
+        near - first + 1
     }
 
     /// Compares before the first scan and after each, and the position of each token.
@@ -93,6 +94,17 @@ mod tests {
                 assert!(check(source.as_bytes(), base, size) > chars);
             }
         }
+    }
+
+    #[test]
+    fn a_long_source() {
+        let source = sources::long();
+        let mut scanner = Scanner::new(&source).unwrap();
+        while scanner.tokens().nth(99).is_some() {
+            check_positions(&scanner);
+        }
+        assert!(scanner.line_count() > 100);
+        check_positions(&scanner);
     }
 
     #[test]

@@ -118,9 +118,8 @@ impl<'src> Scanner<'src> {
         if numbers.text().in_area {
             self.note_changed(before);
         }
-        let token = self.next_token(numbers);
-        self.line = token.position.line;
-        token
+        self.line = self.line_from(numbers);
+        self.token_on(self.line, numbers)
     }
 
     /// The tokens that are left, up to EOF, which is not among them.
@@ -212,10 +211,9 @@ impl<'src> Scanner<'src> {
     /// # Ok::<(), cifgwezam::Refusal>(())
     /// ```
     pub fn position(&self, pos: Pos) -> Result<Position, Refusal> {
-        match self.offset(pos) {
-            Some(offset) => Ok(self.lines().position(offset)),
-            None => Err(Refusal::Position),
-        }
+        let offset = self.offset(pos).ok_or(Refusal::Position)?;
+        let lines = self.lines();
+        Ok(lines.position(lines.find(offset), offset))
     }
 
     /// The position at which a line starts. Lines count from 1, and are known as far as the source was scanned.
@@ -350,37 +348,63 @@ impl<'src> Scanner<'src> {
         if numbers.is_eof() {
             return None;
         }
-        let token = self.next_token(numbers);
-        self.line = token.position.line;
-        Some(token)
+        self.line = self.line_from(numbers);
+        Some(self.token_on(self.line, numbers))
     }
 
-    /// The token with these numbers, which is after the last one that was given.
-    #[inline]
-    fn next_token(&self, numbers: Numbers) -> Token<'src> {
-        let position = self.lines().position_from(self.line, self.token_offset(numbers));
-        self.token_at(numbers, position)
-    }
-
-    /// A token to keep, as long as its text and value are where its scan left them.
-    #[inline]
-    pub(crate) fn token_at(&self, numbers: Numbers, position: Position) -> Token<'src> {
+    /// A token on a line, to keep. Its text and value must be where its scan left them.
+    #[inline(always)]
+    pub(crate) fn token_on(&self, line: usize, numbers: Numbers) -> Token<'src> {
+        let (text, value) = (numbers.text(), numbers.value());
+        if text.in_area || value.in_area {
+            return self.copied_token(line, numbers);
+        }
         Token {
             kind: numbers.kind(),
             inserted: numbers.inserted(),
             pos: numbers.pos(),
-            position,
-            range: self.range(numbers),
-            text: self.kept_text(numbers.text()),
-            value: self.kept_value(numbers.value()),
+            position: self.position_on(line, numbers),
+            range: numbers.range(),
+            text: Cow::Borrowed(text.of_text(self.source)),
+            value: Cow::Borrowed(value.of(self.source.as_bytes())),
             code: numbers.code(),
         }
     }
 
-    /// Where a token is, by halves.
+    /// A token whose text or value is in the area. It is apart, so that the others take less time.
+    #[cold]
+    #[inline(never)]
+    fn copied_token(&self, line: usize, numbers: Numbers) -> Token<'src> {
+        let (text, value) = (numbers.text(), numbers.value());
+        let source = self.source.as_bytes();
+        Token {
+            kind: numbers.kind(),
+            inserted: numbers.inserted(),
+            pos: numbers.pos(),
+            position: self.position_on(line, numbers),
+            range: self.range(numbers),
+            text: if text.in_area { self.text(text).to_owned().into() } else { text.of_text(self.source).into() },
+            value: if value.in_area { self.value(value).to_owned().into() } else { value.of(source).into() },
+            code: numbers.code(),
+        }
+    }
+
+    /// The line of a token that is not before the last one that was given.
     #[inline]
-    pub(crate) fn token_position(&self, numbers: Numbers) -> Position {
-        self.lines().position(self.token_offset(numbers))
+    fn line_from(&self, numbers: Numbers) -> usize {
+        self.lines().find_from(self.line, self.token_offset(numbers))
+    }
+
+    /// The line of any token.
+    #[inline]
+    pub(crate) fn line_of(&self, numbers: Numbers) -> usize {
+        self.lines().find(self.token_offset(numbers))
+    }
+
+    /// The position of a token that is on a line.
+    #[inline]
+    pub(crate) fn position_on(&self, line: usize, numbers: Numbers) -> Position {
+        self.lines().position(line, self.token_offset(numbers))
     }
 
     /// The bytes that a token was read from.
@@ -405,22 +429,6 @@ impl<'src> Scanner<'src> {
     #[inline]
     pub(crate) fn value(&self, part: Part) -> &[u8] {
         part.of(if part.in_area { &self.buffers.area } else { self.source.as_bytes() })
-    }
-
-    #[inline]
-    fn kept_text(&self, part: Part) -> Cow<'src, str> {
-        if part.in_area {
-            return copied(self.text_in_area(part));
-        }
-        Cow::Borrowed(part.of_text(self.source))
-    }
-
-    #[inline]
-    fn kept_value(&self, part: Part) -> Cow<'src, [u8]> {
-        if part.in_area {
-            return copied(part.of(&self.buffers.area));
-        }
-        Cow::Borrowed(part.of(self.source.as_bytes()))
     }
 
     #[cold]
@@ -459,11 +467,6 @@ impl<'src> Scanner<'src> {
     pub(crate) fn state_and_table(&self) -> (&ffi::State, &[usize]) {
         (&self.state, &self.buffers.table)
     }
-}
-
-#[cold]
-fn copied<'a, T: ToOwned + ?Sized>(part: &T) -> Cow<'a, T> {
-    Cow::Owned(part.to_owned())
 }
 
 /// How far the scanner is; what is in its buffers is not shown.
