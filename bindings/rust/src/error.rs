@@ -91,7 +91,7 @@ impl fmt::Display for ErrorKind {
 /// ```
 /// # use cifgwezam::{ErrorKind, Scanner};
 /// let mut scanner = Scanner::new("lane = 'x\n")?;
-/// while scanner.tokens().next().is_some() {}
+/// scanner.tokens().for_each(drop);
 /// let error = scanner.errors().next().unwrap();
 /// assert_eq!(error.kind, ErrorKind::OpenQuote);
 /// assert_eq!(error.to_string(), "1:10: string or character literal is not closed");

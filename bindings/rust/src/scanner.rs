@@ -181,10 +181,10 @@ impl<'src> Scanner<'src> {
     /// ```
     /// # use cifgwezam::Scanner;
     /// let mut scanner = Scanner::new("quota := 08\nlane = '")?;
-    /// assert_eq!(scanner.tokens().count(), 8);
-    /// for error in scanner.errors() {
-    ///     eprintln!("{error}");
-    /// }
+    /// scanner.tokens().for_each(drop);
+    /// let shown: Vec<_> = scanner.errors().map(|error| error.to_string()).collect();
+    /// assert_eq!(shown[0], "1:11: bad octal number: no digits, or a digit above 7");
+    /// assert_eq!(shown[1], "2:9: string or character literal is not closed");
     /// assert_eq!(scanner.errors().len(), 2);
     /// # Ok::<(), cifgwezam::Refusal>(())
     /// ```
@@ -205,7 +205,7 @@ impl<'src> Scanner<'src> {
     /// # use cifgwezam::{Refusal, Scanner};
     /// let mut scanner = Scanner::new("lane\nquota")?;
     /// assert_eq!(scanner.position(6)?.to_string(), "1:7");
-    /// while scanner.tokens().next().is_some() {}
+    /// scanner.tokens().for_each(drop);
     /// assert_eq!(scanner.position(6)?.to_string(), "2:2");
     /// assert_eq!(scanner.position(11), Err(Refusal::Position));
     /// # Ok::<(), cifgwezam::Refusal>(())

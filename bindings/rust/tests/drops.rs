@@ -76,7 +76,8 @@ fn a_long_source() {
 /// One iterator for each token.
 #[test]
 fn again_and_again() {
-    for source in [sources::long(), "x '' +\n y \"\\n\" z".repeat(30), "08 ''\n".repeat(100), "\n".repeat(2_000) + "x"] {
+    for source in [sources::long(), "x '' +\n y \"\\n\" z".repeat(30), "08 ''\n".repeat(100), "\n".repeat(2_000) + "x"]
+    {
         let mut one = Scanner::new(&source).unwrap();
         let mut other = one.clone();
         loop {

@@ -24,7 +24,7 @@ fn the_list() {
     let scanner = read(source.as_bytes());
     assert_eq!((scanner.error_count(), scanner.errors().len()), (5_000, 5_000));
     assert!(scanner.errors().all(|error| error.kind == ErrorKind::BadOctal));
-    assert_eq!(scanner.errors().last().unwrap().position.offset, 4_999 * 3 + 1);
+    assert_eq!(scanner.errors().next_back().unwrap().position.offset, 4_999 * 3 + 1);
 }
 
 #[test]

@@ -41,7 +41,9 @@ fn classes() {
     assert!(literals.eq([Kind::Ident, Kind::Int, Kind::Float, Kind::Imag, Kind::Char, Kind::String]));
     let word = |kind: &Kind| kind.name().bytes().all(|byte| byte.is_ascii_lowercase());
     assert!(Kind::ALL.iter().all(|kind| word(kind) == kind.is_keyword()));
-    assert!(Kind::ALL.iter().all(|kind| kind.name().bytes().all(|byte| byte.is_ascii_punctuation()) == kind.is_operator()));
+    assert!(Kind::ALL
+        .iter()
+        .all(|kind| kind.name().bytes().all(|byte| byte.is_ascii_punctuation()) == kind.is_operator()));
 }
 
 #[test]

@@ -25,8 +25,13 @@ fn the_size_is_the_number_of_characters() {
 fn sources_of_several_types() {
     let text = String::from("lane");
     let bytes = text.clone().into_bytes();
-    let scanners =
-        [Scanner::new("lane"), Scanner::new(b"lane"), Scanner::new(&text), Scanner::new(&bytes), Scanner::new(&bytes[..])];
+    let scanners = [
+        Scanner::new("lane"),
+        Scanner::new(b"lane"),
+        Scanner::new(&text),
+        Scanner::new(&bytes),
+        Scanner::new(&bytes[..]),
+    ];
     for scanner in scanners {
         assert_eq!(scanner.unwrap().scan().text, "lane");
     }

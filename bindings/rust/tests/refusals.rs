@@ -45,8 +45,7 @@ fn positions_and_lines() {
 
 #[test]
 fn in_words() {
-    let refusals =
-        [Refusal::NotUtf8 { place: 1 }, Refusal::TooLong, Refusal::Size, Refusal::Position, Refusal::Line];
+    let refusals = [Refusal::NotUtf8 { place: 1 }, Refusal::TooLong, Refusal::Size, Refusal::Position, Refusal::Line];
     for (refusal, number) in refusals.into_iter().zip(1..) {
         let message = refusal.to_string();
         assert_eq!(refusal.number(), number);
