@@ -1,11 +1,15 @@
-//! Times opening a source and scanning it to EOF: ours through the C functions, in batches and one token at a time, ours
-//! through the Rust crate, in batches, the original and, where its program is given, go/scanner. In each round each of them
-//! makes a few passes over each source, in turn; the quickest pass counts.
+//! Times opening a source and scanning it to EOF: ours through the C functions and through the Rust crate, in each of the
+//! ways that they can be called, the original and, where its program is given, go/scanner. In each round each of them makes
+//! a few passes over each source, in turn; the quickest pass counts.
 //!
 //! scan [--go PROGRAM] NAME=FILE..
 //! scan --plain FILE..    prints the names of the files that have no ILLEGAL token, as one with a letter above 127 has
 
+mod passes;
+
+/// The original's files; bench/scan makes the link to their folder.
 #[allow(dead_code)]
+#[path = "../target/bench/original"]
 mod original {
     pub mod errors;
     pub mod position;
@@ -13,6 +17,7 @@ mod original {
     pub mod token;
 }
 
+use passes::{timed, Pass};
 use std::error::Error;
 use std::hint::black_box;
 use std::io::{BufRead, BufReader, Write};
@@ -21,65 +26,12 @@ use std::process::{Child, ChildStdin, ChildStdout, Command, Stdio};
 const ROUNDS: usize = 20;
 const PASSES: usize = 5;
 
-/// The number of tokens of a source, EOF among them.
-type Pass = fn(&str) -> usize;
-/// The same in C; the sum is over positions and texts.
-type CPass = unsafe extern "C" fn(*const u8, usize, *mut usize) -> usize;
 type Outcome<T> = Result<T, Box<dyn Error>>;
-
-extern "C" {
-    /// bench/pass.c.
-    fn pass(src: *const u8, len: usize, sum: *mut usize) -> usize;
-    fn pass_by_one(src: *const u8, len: usize, sum: *mut usize) -> usize;
-    fn thread_time() -> f64;
-}
-
-/// The time that this thread has run, in nanoseconds.
-fn now() -> f64 {
-    // SAFETY: it reads a clock.
-    unsafe { thread_time() }
-}
-
-fn call(pass: CPass, source: &str) -> usize {
-    let mut sum = 0;
-    // SAFETY: pointer and length are those of a slice, and the sum is a number of our own.
-    let tokens = unsafe { pass(source.as_ptr(), source.len(), &mut sum) };
-    black_box(sum);
-    tokens
-}
-
-fn through_c(source: &str) -> usize {
-    call(pass, source)
-}
-
-fn through_c_by_one(source: &str) -> usize {
-    call(pass_by_one, source)
-}
-
-fn through_crate(source: &str) -> usize {
-    use cifgwezam::{Kind, Scanner};
-    let mut scanner = Scanner::new(source.as_bytes()).expect("a source that can be opened");
-    let (mut tokens, mut sum) = (0, 0);
-    let mut last = Kind::None;
-    while last != Kind::Eof {
-        for token in scanner.batch().expect("a batch") {
-            tokens += 1;
-            sum += token.pos() + token.text().expect("a text").len();
-            last = token.kind().expect("a kind");
-        }
-    }
-    black_box(sum);
-    tokens
-}
 
 /// Whether the source has no ILLEGAL token.
 fn is_plain(source: &str) -> bool {
     use cifgwezam::{Kind, Scanner};
-    let Ok(mut scanner) = Scanner::new(source.as_bytes()) else {
-        return false;
-    };
-    let plain = scanner.tokens().all(|scanned| matches!(scanned, Ok((token, _)) if token.kind != Kind::Illegal));
-    plain
+    Scanner::new(source).is_ok_and(|mut scanner| scanner.tokens().all(|token| token.kind != Kind::Illegal))
 }
 
 fn by_original(source: &str) -> usize {
@@ -105,9 +57,8 @@ fn best(pass: Pass, source: &str) -> (usize, f64) {
     let mut least = f64::INFINITY;
     let mut tokens = 0;
     for _ in 0..PASSES {
-        let start = now();
-        tokens = black_box(pass(black_box(source)));
-        least = least.min(now() - start);
+        let (taken, seen) = timed(pass, source);
+        (least, tokens) = (least.min(taken), seen);
     }
     (tokens, least)
 }
@@ -143,14 +94,16 @@ impl Go {
     }
 }
 
-/// The scanners of this program, and the name of the one that is not of it. Those behind ours are held to the first.
-const SCANNERS: [(&str, Pass); 4] = [
-    ("ours in C (batches)", through_c),
-    ("ours in C (one at a time)", through_c_by_one),
-    ("ours in Rust (batches)", through_crate),
+/// The scanners of this program, and the name of the one that is not of it. Those after ours are held to the first.
+const SCANNERS: [(&str, Pass); 6] = [
+    ("ours in C (batches)", passes::c_batches),
+    ("ours in C (one at a time)", passes::c_by_one),
+    ("ours in Rust (`batch`)", passes::rust_batches),
+    ("ours in Rust (`tokens`)", passes::rust_tokens),
+    ("ours in Rust (`scan`)", passes::rust_scan),
     ("original", by_original),
 ];
-const OURS: usize = 3;
+const OURS: usize = 5;
 const GO: &str = "go/scanner";
 
 /// A source, its tokens, and for each scanner the nanoseconds of the quickest pass.
@@ -166,7 +119,7 @@ impl Text {
     fn read(word: &str) -> Outcome<Text> {
         let (name, file) = word.split_once('=').ok_or("usage: scan [--go PROGRAM] NAME=FILE..")?;
         let source = std::fs::read_to_string(file)?;
-        let tokens = through_c(&source);
+        let tokens = passes::c_batches(&source);
         if tokens == 0 {
             return Err(format!("{name}: refused").into());
         }
@@ -216,10 +169,8 @@ fn print_table(texts: &[Text]) {
     let count = texts[0].best.len();
     let names: Vec<&str> = SCANNERS.iter().map(|(name, _)| *name).chain([GO]).take(count).collect();
     let ratios: Vec<String> = names[OURS..].iter().map(|name| format!("{name} : ours")).collect();
-    println!(
-        "Nanoseconds a token and millions of bytes a second, opening and scanning to EOF, time of the scanning thread, the quickest of {} passes:\n",
-        ROUNDS * PASSES
-    );
+    println!("Nanoseconds a token and millions of bytes a second, opening and scanning to EOF, time of the");
+    println!("scanning thread, the quickest of {} passes:\n", ROUNDS * PASSES);
     println!("| source | bytes | tokens | {} | {} |", names.join(" | "), ratios.join(" | "));
     println!("|{}", "---|".repeat(3 + names.len() + ratios.len()));
     for text in texts {

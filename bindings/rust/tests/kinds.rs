@@ -36,7 +36,7 @@ fn classes() {
         _ => '?',
     };
     let classes: String = Kind::ALL.into_iter().map(class).collect();
-    assert_eq!(classes, format!("ssss{}{}{}", "l".repeat(6), "o".repeat(47), "k".repeat(25)[..25].to_string()));
+    assert_eq!(classes, format!("ssss{}{}{}", "l".repeat(6), "o".repeat(47), "k".repeat(25)));
     let literals = Kind::ALL.into_iter().filter(|kind| kind.is_literal());
     assert!(literals.eq([Kind::Ident, Kind::Int, Kind::Float, Kind::Imag, Kind::Char, Kind::String]));
     let word = |kind: &Kind| kind.name().bytes().all(|byte| byte.is_ascii_lowercase());
