@@ -2,6 +2,9 @@
 #![deny(unsafe_code)]
 #![warn(missing_docs)]
 
+#[cfg(not(target_pointer_width = "64"))]
+compile_error!("the library of the scanner counts in 64 bits");
+
 mod batch;
 mod buffers;
 mod error;

@@ -76,8 +76,8 @@ impl Numbers<'_> {
     #[inline]
     pub fn range(self) -> Range<usize> {
         let Part { start, end, .. } = self.text();
-        // a product, since the processor would often foresee a branch wrongly
-        let spelled = usize::from(!self.inserted()) * self.kind().spelled();
+        // 0 where the token is inserted; a mask, since the processor would often foresee a branch wrongly
+        let spelled = self.kind().spelled() & self.0[1].wrapping_sub(1);
         start..end.max(start.wrapping_add(spelled))
     }
 }

@@ -6,8 +6,9 @@ use std::iter::FusedIterator;
 
 /// The tokens of a scanner up to EOF; made by [`Scanner::tokens`].
 ///
-/// It scans in batches. If it is dropped early, the scanner goes back to where the tokens that were given end. (If it is
-/// never dropped, because of [`std::mem::forget`], the scanner is after the last batch.)
+/// It scans in batches. If it is dropped early, the scanner goes back to where the tokens that were given end; this takes
+/// time in proportion to their number, or to that of 16 tokens. If it is never dropped, because of [`std::mem::forget`],
+/// the scanner is after the last batch.
 #[derive(Debug)]
 pub struct Tokens<'a, 'src> {
     scanner: &'a mut Scanner<'src>,

@@ -68,3 +68,14 @@ fn debugging() {
     let lent = scanner.batch().next().map(|lent| format!("{lent:?}"));
     assert_eq!(lent, Some(format!("{:?}", again.scan())));
 }
+
+/// A scanner and its tokens can be sent to another thread, and be shared.
+#[test]
+fn threads() {
+    fn check<T: Send + Sync>(value: T) -> T {
+        value
+    }
+    let mut scanner = check(Scanner::new("a b").unwrap());
+    let tokens = std::thread::scope(|scope| scope.spawn(|| check(scanner.tokens()).collect::<Vec<_>>()).join());
+    assert_eq!(check(tokens.unwrap()).len(), 3);
+}
