@@ -17,7 +17,7 @@ pub struct Tokens<'a, 'src> {
     /// How many tokens of the batch were given, EOF among them, and how many it has.
     given: usize,
     count: usize,
-    /// The most tokens of the next batch; 0 after EOF.
+    /// The most tokens of the next batch.
     room: usize,
 }
 
@@ -31,18 +31,14 @@ impl<'a, 'src> Tokens<'a, 'src> {
         Tokens { scanner, before, given: 0, count: 0, room: FIRST_ROOM }
     }
 
-    /// Scans the next batch; tells whether there is one.
+    /// Scans the next batch. After EOF this is EOF alone.
     #[cold]
     #[inline(never)]
-    fn refill(&mut self) -> bool {
-        if self.room == 0 {
-            return false;
-        }
+    fn refill(&mut self) {
         self.before = *self.scanner.state();
         self.count = self.scanner.fill(self.room);
         self.given = 0;
         self.room = (self.room * 2).min(Scanner::MAX_BATCH);
-        true
     }
 }
 
@@ -51,14 +47,11 @@ impl<'src> Iterator for Tokens<'_, 'src> {
 
     #[inline]
     fn next(&mut self) -> Option<Token<'src>> {
-        if self.given == self.count && !self.refill() {
-            return None;
+        if self.given == self.count {
+            self.refill();
         }
         let token = self.scanner.give(self.given);
         self.given += 1;
-        if token.is_none() {
-            self.room = 0;
-        }
         token
     }
 }
