@@ -95,13 +95,13 @@ impl<'a, 'src> Lent<'a, 'src> {
     /// Its text, as [`Token::text`].
     #[inline]
     pub fn text(self) -> &'a str {
-        self.scanner.text(self.numbers.text())
+        self.scanner.text(self.numbers)
     }
 
     /// Its value, as [`Token::value`].
     #[inline]
     pub fn value(self) -> &'a [u8] {
-        self.scanner.value(self.numbers.value())
+        self.scanner.value(self.numbers)
     }
 
     /// Its character, as [`Token::code`].

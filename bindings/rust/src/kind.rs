@@ -174,10 +174,10 @@ impl Kind {
         Kind::ALL.get(number).copied()
     }
 
-    /// The bytes of an operator or a keyword; 0 for the others.
+    /// The bytes of an operator or a keyword with a number; 0 for the other kinds.
     #[inline]
-    pub(crate) fn spelled(self) -> usize {
-        SPELLED[self as usize].into()
+    pub(crate) fn spelled(number: usize) -> usize {
+        SPELLED.get(number).map_or(0, |length| usize::from(*length))
     }
 }
 

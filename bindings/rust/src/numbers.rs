@@ -77,7 +77,7 @@ impl Numbers<'_> {
     pub fn range(self) -> Range<usize> {
         let Part { start, end, .. } = self.text();
         // 0 where the token is inserted; a mask, since the processor would often foresee a branch wrongly
-        let spelled = self.kind().spelled() & self.0[1].wrapping_sub(1);
+        let spelled = Kind::spelled(self.0[0]) & self.0[1].wrapping_sub(1);
         start..end.max(start.wrapping_add(spelled))
     }
 }

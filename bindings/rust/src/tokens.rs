@@ -45,7 +45,8 @@ impl<'a, 'src> Tokens<'a, 'src> {
 impl<'src> Iterator for Tokens<'_, 'src> {
     type Item = Token<'src>;
 
-    #[inline]
+    // always, so that a loop takes no time for what it does not use of a token
+    #[inline(always)]
     fn next(&mut self) -> Option<Token<'src>> {
         if self.given == self.count {
             self.refill();

@@ -4,7 +4,7 @@ use crate::buffers::Buffers;
 use crate::ffi;
 use crate::foreign::foreign;
 use crate::lines::Lines;
-use crate::numbers::{Numbers, Part};
+use crate::numbers::Numbers;
 use crate::{Pos, Position, Refusal, Scanner, Token};
 use std::borrow::Cow;
 use std::ops::Range;
@@ -121,7 +121,7 @@ impl<'src> Scanner<'src> {
     }
 
     /// The token of the buffer with an index, which is the next one to be given; none if it is EOF.
-    #[inline]
+    #[inline(always)]
     pub(crate) fn give(&mut self, index: usize) -> Option<Token<'src>> {
         let numbers = Numbers(&self.buffers.tokens[index]);
         if numbers.is_eof() {
@@ -134,38 +134,47 @@ impl<'src> Scanner<'src> {
     /// A token on a line, to keep. Its text and value must be where its scan left them.
     #[inline(always)]
     pub(crate) fn token_on(&self, line: usize, numbers: Numbers) -> Token<'src> {
-        let (text, value) = (numbers.text(), numbers.value());
-        if text.in_area || value.in_area {
-            return self.copied_token(line, numbers);
-        }
-        Token {
-            kind: numbers.kind(),
-            inserted: numbers.inserted(),
-            pos: numbers.pos(),
-            position: self.position_on(line, numbers),
-            range: numbers.range(),
-            text: Cow::Borrowed(text.of_text(self.source)),
-            value: Cow::Borrowed(value.of(self.source.as_bytes())),
-            code: numbers.code(),
-        }
-    }
-
-    /// A token whose text or value is in the area. It is apart, so that the others take less time.
-    #[cold]
-    #[inline(never)]
-    fn copied_token(&self, line: usize, numbers: Numbers) -> Token<'src> {
-        let (text, value) = (numbers.text(), numbers.value());
-        let source = self.source.as_bytes();
         Token {
             kind: numbers.kind(),
             inserted: numbers.inserted(),
             pos: numbers.pos(),
             position: self.position_on(line, numbers),
             range: self.range(numbers),
-            text: if text.in_area { self.text(text).to_owned().into() } else { text.of_text(self.source).into() },
-            value: if value.in_area { self.value(value).to_owned().into() } else { value.of(source).into() },
             code: numbers.code(),
+            text: self.kept_text(numbers),
+            value: self.kept_value(numbers),
         }
+    }
+
+    /// A text, borrowed from the source or copied. The copy comes in a box, which two registers hold: so a token is written
+    /// to memory once, when all of it is known, and this takes less time.
+    #[inline]
+    fn kept_text(&self, numbers: Numbers) -> Cow<'src, str> {
+        if numbers.text().in_area {
+            return Cow::Owned(self.copied_text(numbers).into_string());
+        }
+        Cow::Borrowed(numbers.text().of_text(self.source))
+    }
+
+    /// A value, likewise.
+    #[inline]
+    fn kept_value(&self, numbers: Numbers) -> Cow<'src, [u8]> {
+        if numbers.value().in_area {
+            return Cow::Owned(self.copied_value(numbers).into_vec());
+        }
+        Cow::Borrowed(numbers.value().of(self.source.as_bytes()))
+    }
+
+    #[cold]
+    #[inline(never)]
+    fn copied_text(&self, numbers: Numbers) -> Box<str> {
+        self.text(numbers).into()
+    }
+
+    #[cold]
+    #[inline(never)]
+    fn copied_value(&self, numbers: Numbers) -> Box<[u8]> {
+        self.value(numbers).into()
     }
 
     /// The line of a token that is not before the last one that was given.
@@ -197,22 +206,23 @@ impl<'src> Scanner<'src> {
 
     /// A text where it is.
     #[inline]
-    pub(crate) fn text(&self, part: Part) -> &str {
-        if part.in_area {
-            return self.text_in_area(part);
+    pub(crate) fn text(&self, numbers: Numbers) -> &str {
+        if numbers.text().in_area {
+            return self.text_in_area(numbers);
         }
-        part.of_text(self.source)
+        numbers.text().of_text(self.source)
     }
 
     /// A value where it is.
     #[inline]
-    pub(crate) fn value(&self, part: Part) -> &[u8] {
-        part.of(if part.in_area { &self.buffers.area } else { self.source.as_bytes() })
+    pub(crate) fn value(&self, numbers: Numbers) -> &[u8] {
+        let value = numbers.value();
+        value.of(if value.in_area { &self.buffers.area } else { self.source.as_bytes() })
     }
 
     #[cold]
-    fn text_in_area(&self, part: Part) -> &str {
-        match std::str::from_utf8(part.of(&self.buffers.area)) {
+    fn text_in_area(&self, numbers: Numbers) -> &str {
+        match std::str::from_utf8(numbers.text().of(&self.buffers.area)) {
             Ok(text) => text,
             Err(_) => foreign("a text that is not UTF-8"),
         }
