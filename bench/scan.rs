@@ -1,11 +1,15 @@
-//! Times opening a source and scanning it to EOF: ours through the C functions, in batches and one token at a time, ours
-//! through the Rust crate, in batches, the original and, where its program is given, go/scanner. In each round each of them
-//! makes a few passes over each source, in turn; the quickest pass counts.
+//! Times opening a source and scanning it to EOF: ours through the C functions and through the Rust crate, in each of the
+//! ways that they can be called, the original and, where its program is given, go/scanner. In each round each of them makes
+//! a few passes over each source, in turn; the quickest pass counts.
 //!
 //! scan [--go PROGRAM] NAME=FILE..
 //! scan --plain FILE..    prints the names of the files that have no ILLEGAL token, as one with a letter above 127 has
 
+mod passes;
+
+/// The original's files; bench/scan makes the link to their folder.
 #[allow(dead_code)]
+#[path = "../target/bench/original"]
 mod original {
     pub mod errors;
     pub mod position;
@@ -13,6 +17,7 @@ mod original {
     pub mod token;
 }
 
+use passes::{timed, Pass};
 use std::error::Error;
 use std::hint::black_box;
 use std::io::{BufRead, BufReader, Write};
@@ -21,65 +26,12 @@ use std::process::{Child, ChildStdin, ChildStdout, Command, Stdio};
 const ROUNDS: usize = 20;
 const PASSES: usize = 5;
 
-/// The number of tokens of a source, EOF among them.
-type Pass = fn(&str) -> usize;
-/// The same in C; the sum is over positions and texts.
-type CPass = unsafe extern "C" fn(*const u8, usize, *mut usize) -> usize;
 type Outcome<T> = Result<T, Box<dyn Error>>;
-
-extern "C" {
-    /// bench/pass.c.
-    fn pass(src: *const u8, len: usize, sum: *mut usize) -> usize;
-    fn pass_by_one(src: *const u8, len: usize, sum: *mut usize) -> usize;
-    fn thread_time() -> f64;
-}
-
-/// The time that this thread has run, in nanoseconds.
-fn now() -> f64 {
-    // SAFETY: it reads a clock.
-    unsafe { thread_time() }
-}
-
-fn call(pass: CPass, source: &str) -> usize {
-    let mut sum = 0;
-    // SAFETY: pointer and length are those of a slice, and the sum is a number of our own.
-    let tokens = unsafe { pass(source.as_ptr(), source.len(), &mut sum) };
-    black_box(sum);
-    tokens
-}
-
-fn through_c(source: &str) -> usize {
-    call(pass, source)
-}
-
-fn through_c_by_one(source: &str) -> usize {
-    call(pass_by_one, source)
-}
-
-fn through_crate(source: &str) -> usize {
-    use cifgwezam::{Kind, Scanner};
-    let mut scanner = Scanner::new(source.as_bytes()).expect("a source that can be opened");
-    let (mut tokens, mut sum) = (0, 0);
-    let mut last = Kind::None;
-    while last != Kind::Eof {
-        for token in scanner.batch().expect("a batch") {
-            tokens += 1;
-            sum += token.pos() + token.text().expect("a text").len();
-            last = token.kind().expect("a kind");
-        }
-    }
-    black_box(sum);
-    tokens
-}
 
 /// Whether the source has no ILLEGAL token.
 fn is_plain(source: &str) -> bool {
     use cifgwezam::{Kind, Scanner};
-    let Ok(mut scanner) = Scanner::new(source.as_bytes()) else {
-        return false;
-    };
-    let plain = scanner.tokens().all(|scanned| matches!(scanned, Ok((token, _)) if token.kind != Kind::Illegal));
-    plain
+    Scanner::new(source).is_ok_and(|mut scanner| scanner.tokens().all(|token| token.kind != Kind::Illegal))
 }
 
 fn by_original(source: &str) -> usize {
@@ -105,9 +57,8 @@ fn best(pass: Pass, source: &str) -> (usize, f64) {
     let mut least = f64::INFINITY;
     let mut tokens = 0;
     for _ in 0..PASSES {
-        let start = now();
-        tokens = black_box(pass(black_box(source)));
-        least = least.min(now() - start);
+        let (taken, seen) = timed(pass, source);
+        (least, tokens) = (least.min(taken), seen);
     }
     (tokens, least)
 }
@@ -143,15 +94,18 @@ impl Go {
     }
 }
 
-/// The scanners of this program, and the name of the one that is not of it. Those behind ours are held to the first.
-const SCANNERS: [(&str, Pass); 4] = [
-    ("ours in C (batches)", through_c),
-    ("ours in C (one at a time)", through_c_by_one),
-    ("ours in Rust (batches)", through_crate),
+/// The scanners of this program, by short names, and the name of the one that is not of it. The first is ours.
+const SCANNERS: [(&str, Pass); 7] = [
+    ("C many", passes::c_batches),
+    ("C next", passes::c_by_struct),
+    ("C scan", passes::c_by_one),
+    ("`batch`", passes::rust_batches),
+    ("`tokens`", passes::rust_tokens),
+    ("`scan`", passes::rust_scan),
     ("original", by_original),
 ];
-const OURS: usize = 3;
-const GO: &str = "go/scanner";
+const ORIGINAL: usize = 6;
+const GO: &str = "Go";
 
 /// A source, its tokens, and for each scanner the nanoseconds of the quickest pass.
 struct Text {
@@ -166,7 +120,7 @@ impl Text {
     fn read(word: &str) -> Outcome<Text> {
         let (name, file) = word.split_once('=').ok_or("usage: scan [--go PROGRAM] NAME=FILE..")?;
         let source = std::fs::read_to_string(file)?;
-        let tokens = through_c(&source);
+        let tokens = passes::c_batches(&source);
         if tokens == 0 {
             return Err(format!("{name}: refused").into());
         }
@@ -201,35 +155,38 @@ fn measure(texts: &mut [Text], mut go: Option<Go>) -> Outcome<()> {
     go.map_or(Ok(()), Go::end)
 }
 
-fn print_row(name: &str, bytes: usize, tokens: usize, best: &[f64]) {
-    print!("| {name} | {bytes} | {tokens} |");
-    for least in best {
-        print!(" {:.1} ns, {:.0} MB/s |", least / tokens as f64, bytes as f64 * 1e3 / least);
-    }
-    for least in &best[OURS..] {
-        print!(" {:.2} |", least / best[0]);
+fn print_row(text: &Text) {
+    print!("| {} | {} | {} |", text.name, text.source.len(), text.tokens);
+    for least in &text.best {
+        print!(" {:.1} |", least / text.tokens as f64);
     }
     println!();
 }
 
-fn print_table(texts: &[Text]) {
-    let count = texts[0].best.len();
-    let names: Vec<&str> = SCANNERS.iter().map(|(name, _)| *name).chain([GO]).take(count).collect();
-    let ratios: Vec<String> = names[OURS..].iter().map(|name| format!("{name} : ours")).collect();
-    println!(
-        "Nanoseconds a token and millions of bytes a second, opening and scanning to EOF, time of the scanning thread, the quickest of {} passes:\n",
-        ROUNDS * PASSES
-    );
-    println!("| source | bytes | tokens | {} | {} |", names.join(" | "), ratios.join(" | "));
-    println!("|{}", "---|".repeat(3 + names.len() + ratios.len()));
-    for text in texts {
-        print_row(&text.name, text.source.len(), text.tokens, &text.best);
+/// Prints nanoseconds a token for each source.
+fn print_sources(texts: &[Text], names: &[&str]) {
+    println!("Nanoseconds a token, opening and scanning to EOF, time of the scanning thread, the quickest of");
+    println!("{} passes:\n", ROUNDS * PASSES);
+    println!("| source | bytes | tokens | {} |", names.join(" | "));
+    println!("|{}", "---|".repeat(3 + names.len()));
+    texts.iter().for_each(print_row);
+}
+
+/// Prints for each scanner what it takes for all sources, and how it compares with the original and with Go's.
+fn print_scanners(texts: &[Text], names: &[&str]) {
+    let bytes: usize = texts.iter().map(|text| text.source.len()).sum();
+    let tokens: usize = texts.iter().map(|text| text.tokens).sum();
+    let total = |scanner: usize| texts.iter().map(|text| text.best[scanner]).sum::<f64>();
+    let others = ORIGINAL..names.len();
+    println!("\nAll sources, {bytes} bytes and {tokens} tokens:\n");
+    println!("| scanner | ns a token | MB/s | {} |", names[others.clone()].join(" : it | ") + " : it");
+    println!("|{}", "---|".repeat(3 + others.len()));
+    for (scanner, name) in names.iter().enumerate() {
+        let least = total(scanner);
+        print!("| {name} | {:.1} | {:.0} |", least / tokens as f64, bytes as f64 * 1e3 / least);
+        others.clone().for_each(|other| print!(" {:.2} |", total(other) / least));
+        println!();
     }
-    let sum = |scanner: usize| texts.iter().map(|text| text.best[scanner]).sum();
-    let best: Vec<f64> = (0..count).map(sum).collect();
-    let bytes = texts.iter().map(|text| text.source.len()).sum();
-    let tokens = texts.iter().map(|text| text.tokens).sum();
-    print_row("all", bytes, tokens, &best);
 }
 
 fn print_plain(files: &[String]) -> Outcome<()> {
@@ -257,6 +214,8 @@ fn main() -> Outcome<()> {
     }
     let go = program.map(|program| Go::start(&program, &texts)).transpose()?;
     measure(&mut texts, go)?;
-    print_table(&texts);
+    let names: Vec<&str> = SCANNERS.iter().map(|(name, _)| *name).chain([GO]).take(texts[0].best.len()).collect();
+    print_sources(&texts, &names);
+    print_scanners(&texts, &names);
     Ok(())
 }

@@ -133,19 +133,13 @@ fn is_old_octal(text: &[u8]) -> bool {
 fn ours(source: &[u8]) -> Result<(Vec<Lexeme>, usize), Refusal> {
     let mut scanner = Scanner::new(source)?;
     let mut lexemes = Vec::new();
-    let (mut chars, mut bytes) = (0, 0);
     loop {
-        let (token, pos) = scanner.scan()?;
-        while chars < pos {
-            bytes += 1;
-            let starts = source.get(bytes).is_none_or(|byte| byte & 0xc0 != 0x80);
-            chars += usize::from(starts);
-        }
+        let token = scanner.scan();
         lexemes.push(Lexeme {
             kind: token.kind,
-            offset: bytes,
+            offset: token.range.start,
             inserted: token.inserted,
-            text: token.text.into_owned(),
+            text: token.text.into_owned().into_bytes(),
             value: token.value.into_owned(),
             code: token.code.map_or(0, u32::from),
         });

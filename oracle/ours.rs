@@ -1,7 +1,7 @@
 //! Runs our scanner: the proved library, through its Rust crate.
 
 use crate::listing::{End, Listing, Row};
-use cifgwezam::{Kind, Pos, Refusal, Scanner, Token};
+use cifgwezam::{Kind, Refusal, Scanner, Token};
 
 /// Our listing of a source. Offsets are less the base.
 pub fn list(source: &[u8], base: usize, size: usize, out: &mut Listing) {
@@ -23,21 +23,21 @@ fn refused(refusal: Refusal) -> End {
     End::Refused { number: refusal.number(), place }
 }
 
-// False if no EOF came. A source of an even number of bytes is scanned in batches, any other token by token.
+// False if no EOF came. All three ways to scan are taken: batches for a source of an even number of bytes, the iterator
+// where a division by 4 leaves 3, and else token by token.
 fn run(source: &[u8], base: usize, size: usize, out: &mut Listing) -> Result<bool, Refusal> {
     let mut scanner = Scanner::with_size(source, base, size)?;
-    let batches = source.len() % 2 == 0;
-    let mut left = 2 * scanner.char_count() + 2;
-    let mut last = None;
-    while last != Some(Kind::Eof) {
-        if left == 0 {
-            return Ok(false);
-        }
-        left -= 1;
-        last = if batches { put_batch(&mut scanner, out)? } else { put_one(&mut scanner, out)? };
+    let most = 2 * scanner.char_count() + 2;
+    let whole = match source.len() % 4 {
+        0 | 2 => put_batches(&mut scanner, most, out)?,
+        3 => put_tokens(&mut scanner, most, out)?,
+        _ => put_scans(&mut scanner, most, out)?,
+    };
+    if !whole {
+        return Ok(false);
     }
-    for e in scanner.errors()? {
-        out.errors.push([e.position.offset, e.position.line, e.position.column, usize::from(e.number)]);
+    for e in scanner.errors() {
+        out.errors.push([e.position.offset, e.position.line, e.position.column, usize::from(e.kind.number())]);
     }
     for line in 1..=scanner.line_count() {
         out.starts.push(scanner.line_start(line)?.wrapping_sub(base));
@@ -45,39 +45,58 @@ fn run(source: &[u8], base: usize, size: usize, out: &mut Listing) -> Result<boo
     Ok(true)
 }
 
-// The kind of the last token of a batch.
-fn put_batch(scanner: &mut Scanner, out: &mut Listing) -> Result<Option<Kind>, Refusal> {
-    let batch = scanner.batch()?;
-    let asked = batch.scanner();
-    let mut last = None;
-    for lent in batch {
-        put(asked, &lent.keep()?, lent.pos(), out)?;
-        last = Some(lent.kind()?);
+// Each of the three tells whether EOF came, in so many calls at most.
+fn put_batches(scanner: &mut Scanner, most: usize, out: &mut Listing) -> Result<bool, Refusal> {
+    for _ in 0..most {
+        let batch = scanner.batch();
+        let asked = batch.scanner();
+        for lent in batch {
+            put(asked, &lent.keep(), out)?;
+            if lent.kind() == Kind::Eof {
+                return Ok(true);
+            }
+        }
     }
-    Ok(last)
+    Ok(false)
 }
 
-fn put_one(scanner: &mut Scanner, out: &mut Listing) -> Result<Option<Kind>, Refusal> {
-    let (token, pos) = scanner.scan()?;
-    put(scanner, &token, pos, out)?;
-    Ok(Some(token.kind))
+// The iterator borrows the scanner, which can be asked only after that; so the tokens are kept first.
+fn put_tokens(scanner: &mut Scanner, most: usize, out: &mut Listing) -> Result<bool, Refusal> {
+    let mut tokens: Vec<_> = scanner.tokens().take(most).collect();
+    tokens.push(scanner.scan());
+    for token in &tokens {
+        put(scanner, token, out)?;
+    }
+    Ok(tokens.last().is_some_and(|token| token.kind == Kind::Eof))
 }
 
-fn put(scanner: &Scanner, token: &Token, pos: Pos, out: &mut Listing) -> Result<(), Refusal> {
-    let at = scanner.position(pos)?;
+fn put_scans(scanner: &mut Scanner, most: usize, out: &mut Listing) -> Result<bool, Refusal> {
+    for _ in 0..most {
+        let token = scanner.scan();
+        put(scanner, &token, out)?;
+        if token.kind == Kind::Eof {
+            return Ok(true);
+        }
+    }
+    Ok(false)
+}
+
+fn put(scanner: &Scanner, token: &Token, out: &mut Listing) -> Result<(), Refusal> {
+    let at = token.position;
     let row = Row {
         // by the token itself; the position's own offset is checked below
-        offset: pos.wrapping_sub(scanner.base()),
+        offset: token.pos.wrapping_sub(scanner.base()),
         line: at.line,
         column: at.column,
-        kind: token.kind as u8,
+        kind: token.kind.number(),
         inserted: token.inserted,
         code: token.code.map_or(0, u32::from),
         ..Row::default()
     };
     assert_eq!(row.offset, at.offset, "a position's offset");
+    assert_eq!(scanner.position(token.pos)?, at, "a position that is asked for");
     let written = token.kind == Kind::Semicolon && !row.inserted;
-    let text = &token.text[..];
+    let text = token.text.as_bytes();
     out.push(row, if written && text.is_empty() { b";" } else { text }, &token.value);
     Ok(())
 }
@@ -93,7 +112,7 @@ pub struct Answers {
 /// Scans a source to its first EOF, then asks for lines and for positions.
 pub fn ask(source: &[u8], base: usize, size: usize, positions: &[usize]) -> Result<Answers, Refusal> {
     let mut scanner = Scanner::with_size(source, base, size)?;
-    while scanner.advance()? != Kind::Eof {}
+    scanner.tokens().for_each(drop);
     let place = |pos: &usize| match scanner.position(*pos) {
         Ok(at) => Ok([at.offset, at.line, at.column]),
         Err(refusal) => Err(refusal.number()),

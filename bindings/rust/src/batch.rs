@@ -2,8 +2,10 @@
 
 use crate::ffi;
 use crate::numbers::Numbers;
-use crate::{Kind, Pos, Refusal, Scanner, Token};
+use crate::{Kind, Pos, Position, Scanner, Token};
+use std::fmt;
 use std::iter::FusedIterator;
+use std::ops::Range;
 use std::slice::Iter;
 
 /// Tokens that were scanned in one call; made by [`Scanner::batch`].
@@ -19,15 +21,13 @@ impl<'a, 'src> Batch<'a, 'src> {
         Batch { scanner, tokens: tokens.iter() }
     }
 
-    /// The scanner, for questions: it is behind the last token of the batch.
+    /// The scanner, for questions. It is after the last token of the batch.
     ///
     /// ```
     /// # use cifgwezam::Scanner;
-    /// let mut scanner = Scanner::new(b"quota =\n x")?;
-    /// let batch = scanner.batch()?;
-    /// let asked = batch.scanner();
-    /// let lines: Vec<_> = batch.map(|token| asked.position(token.pos()).map(|at| at.line)).collect();
-    /// assert_eq!(lines, [Ok(1), Ok(1), Ok(2), Ok(2), Ok(2)]);
+    /// let mut scanner = Scanner::new("quota =\n x")?;
+    /// let batch = scanner.batch();
+    /// assert_eq!((batch.len(), batch.scanner().line_count()), (5, 2));
     /// # Ok::<(), cifgwezam::Refusal>(())
     /// ```
     pub fn scanner(&self) -> &'a Scanner<'src> {
@@ -54,8 +54,8 @@ impl ExactSizeIterator for Batch<'_, '_> {}
 
 impl FusedIterator for Batch<'_, '_> {}
 
-/// A token of a [`Batch`]. It lends what it shows, and [`Lent::keep`] gives it to keep.
-#[derive(Clone, Copy, Debug)]
+/// A token of a [`Batch`]. It lends what it shows; [`Lent::keep`] gives a [`Token`] that outlives the batch.
+#[derive(Clone, Copy)]
 pub struct Lent<'a, 'src> {
     scanner: &'a Scanner<'src>,
     numbers: Numbers<'a>,
@@ -64,8 +64,14 @@ pub struct Lent<'a, 'src> {
 impl<'a, 'src> Lent<'a, 'src> {
     /// What it is.
     #[inline]
-    pub fn kind(self) -> Result<Kind, Refusal> {
+    pub fn kind(self) -> Kind {
         self.numbers.kind()
+    }
+
+    /// Whether it is a semicolon that the scanner inserted at the end of a line.
+    #[inline]
+    pub fn inserted(self) -> bool {
+        self.numbers.inserted()
     }
 
     /// The position of its first character.
@@ -74,32 +80,45 @@ impl<'a, 'src> Lent<'a, 'src> {
         self.numbers.pos()
     }
 
+    /// The offset, line and column of its first character. The line is searched for by halves.
+    #[inline]
+    pub fn position(self) -> Position {
+        self.scanner.position_on(self.scanner.line_of(self.numbers), self.numbers)
+    }
+
+    /// The bytes of the source that it was read from, as [`Token::range`].
+    #[inline]
+    pub fn range(self) -> Range<usize> {
+        self.scanner.range(self.numbers)
+    }
+
     /// Its text, as [`Token::text`].
     #[inline]
-    pub fn text(self) -> Result<&'a [u8], Refusal> {
-        self.scanner.lent(self.numbers.text())
+    pub fn text(self) -> &'a str {
+        self.scanner.text(self.numbers)
     }
 
     /// Its value, as [`Token::value`].
     #[inline]
-    pub fn value(self) -> Result<&'a [u8], Refusal> {
-        self.scanner.lent(self.numbers.value())
+    pub fn value(self) -> &'a [u8] {
+        self.scanner.value(self.numbers)
     }
 
     /// Its character, as [`Token::code`].
     #[inline]
-    pub fn code(self) -> Result<Option<char>, Refusal> {
+    pub fn code(self) -> Option<char> {
         self.numbers.code()
     }
 
-    /// Whether it is a semicolon that does not stand in the source.
-    #[inline]
-    pub fn inserted(self) -> bool {
-        self.numbers.inserted()
-    }
-
     /// The token as [`Scanner::scan`] gives it, which outlives the batch.
-    pub fn keep(self) -> Result<Token<'src>, Refusal> {
-        self.scanner.token_of(self.numbers)
+    pub fn keep(self) -> Token<'src> {
+        self.scanner.token_on(self.scanner.line_of(self.numbers), self.numbers)
+    }
+}
+
+/// As the token that it is.
+impl fmt::Debug for Lent<'_, '_> {
+    fn fmt(&self, f: &mut fmt::Formatter<'_>) -> fmt::Result {
+        self.keep().fmt(f)
     }
 }

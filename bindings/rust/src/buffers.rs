@@ -1,9 +1,10 @@
 //! The buffers that a scanner lends to each call, and how they grow.
 
-use crate::{ffi, Refusal};
+use crate::ffi;
+use crate::foreign::foreign;
 
-/// The table of line starts, the list of errors, the text area and the tokens of a batch.
-#[derive(Clone, Debug)]
+/// The line table, the error list, the text area and the tokens of a batch.
+#[derive(Clone)]
 pub struct Buffers {
     pub table: Vec<usize>,
     pub list: Vec<usize>,
@@ -18,7 +19,7 @@ pub struct Buffers {
 const RECORD: usize = 4;
 
 impl Buffers {
-    /// Buffers that do for most sources of so many bytes.
+    /// Buffers that are large enough for most sources of so many bytes.
     pub fn new(source: usize) -> Buffers {
         Buffers {
             table: vec![0; source / 16 + 8],
@@ -29,23 +30,29 @@ impl Buffers {
         }
     }
 
-    /// Doubles the buffer that a scan was refused for. Every other refusal stands, and so does this one where the
-    /// buffer already holds the most that the source can ask for.
-    pub fn grow(&mut self, refusal: Refusal) -> Result<(), Refusal> {
+    /// Makes room for the tokens of a batch, up to so many; fewer where the source cannot have as many.
+    pub fn make_room(&mut self, tokens: usize) {
+        // a character gives one token, with a semicolon after it; then comes EOF
+        let most = 2 * self.source + 1;
+        self.tokens.resize(tokens.min(most), [0; 10]);
+    }
+
+    /// Doubles the buffer for which a scan was refused. It is a foreign library that refuses for another reason, or
+    /// where the buffer already holds the most that the source can ask for.
+    #[cold]
+    pub fn grow(&mut self, refusal: u8) {
         let most = self.source + 1;
         let grown = match refusal {
-            // a line start behind each byte, and the first
-            Refusal::TableFull => double(&mut self.table, most),
-            // an error ends a token that has read a character
-            Refusal::ListFull => double(&mut self.list, most * RECORD),
-            // a text gains one byte at most, a value none
-            Refusal::AreaFull => double(&mut self.area, most * 2),
+            // a line starts at 0, and after each LF
+            ffi::TABLE_FULL => double(&mut self.table, most),
+            // a scan records one error at most, and reads a character then
+            ffi::LIST_FULL => double(&mut self.list, most * RECORD),
+            // a text has one byte more than was read at most, a value none
+            ffi::AREA_FULL => double(&mut self.area, most * 2),
             _ => false,
         };
-        if grown {
-            Ok(())
-        } else {
-            Err(refusal)
+        if !grown {
+            foreign("a refusal to scan")
         }
     }
 }

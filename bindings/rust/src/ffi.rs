@@ -1,7 +1,7 @@
-//! The six functions of the library that this crate uses, over slices. The only unsafe code of this crate is here.
+//! The functions of the library that this crate calls, over slices. All unsafe code of this crate is here.
 //!
-//! A slice passes as its pointer and its length in elements. Each function answers the number of its refusal,
-//! or 0, reads and writes its slices within their lengths alone, keeps no pointer and ends: so it is proved.
+//! A slice passes as its pointer and its length in elements. Each function answers 0 or the number of its refusal. It
+//! reads and writes its slices only within their lengths, keeps no pointer, and ends: this is proved.
 
 #![allow(unsafe_code)]
 
@@ -9,6 +9,18 @@
 pub type State = [usize; 7];
 /// A token in its numbers: kind, inserted, position, code, then text and value: in the area or not, start, end.
 pub type Token = [usize; 10];
+
+// The numbers of a state that the crate reads.
+pub const BASE: usize = 0;
+pub const SIZE: usize = 1;
+pub const PLACE: usize = 2;
+pub const LINES: usize = 5;
+pub const ERRORS: usize = 6;
+
+// The refusals that a scan answers for want of room, by their numbers.
+pub const TABLE_FULL: u8 = 7;
+pub const LIST_FULL: u8 = 8;
+pub const AREA_FULL: u8 = 9;
 
 extern "C" {
     fn scanner_open(
@@ -87,10 +99,10 @@ extern "C" {
     ) -> u8;
 }
 
-/// Opens a source; the answer is its number of characters, or with 1 the place of the bad byte.
+/// Opens a source. The answer is its number of characters; with refusal 1, the place of the bad byte.
 pub fn open(src: &[u8], base: usize, size: usize, table: &mut [usize], state: &mut State, answer: &mut usize) -> u8 {
-    // SAFETY: each pointer and length are those of a live slice (the answer: of one number). The lent ones that
-    // are written are exclusive borrows, so no two overlap.
+    // SAFETY: each pointer and length are those of a live slice (the answer: of one number). Those that are written
+    // are exclusive borrows, so no two overlap.
     unsafe {
         scanner_open(
             src.as_ptr(),
@@ -117,8 +129,8 @@ pub fn scan(
     area: &mut [u8],
     token: &mut Token,
 ) -> u8 {
-    // SAFETY: each pointer and length are those of a live slice; those that are written are exclusive borrows,
-    // so no two overlap.
+    // SAFETY: each pointer and length are those of a live slice. Those that are written are exclusive borrows, so no
+    // two overlap.
     unsafe {
         scanner_scan(
             src.as_ptr(),
@@ -137,7 +149,8 @@ pub fn scan(
     }
 }
 
-/// Scans as many tokens as there is room for, one at least, and answers how many were given; or it is refused and changes nothing.
+/// Scans as many tokens as there is room for, at least one, and answers how many it gave. A refused call gives none and
+/// changes nothing.
 #[inline]
 pub fn scan_many(
     src: &[u8],
@@ -149,8 +162,8 @@ pub fn scan_many(
     answer: &mut usize,
 ) -> u8 {
     let tokens = tokens.as_flattened_mut();
-    // SAFETY: each pointer and length are those of a live slice (the answer: of one number). The lent ones that
-    // are written are exclusive borrows, so no two overlap.
+    // SAFETY: each pointer and length are those of a live slice (the answer: of one number). Those that are written
+    // are exclusive borrows, so no two overlap.
     unsafe {
         scanner_scan_many(
             src.as_ptr(),
@@ -171,7 +184,9 @@ pub fn scan_many(
     }
 }
 
-/// The offset, line and column of a position.
+/// The offset, line and column of a position. It searches from the first line, so `lines.rs` answers instead; the
+/// tests hold that answer to this one.
+#[cfg_attr(not(test), allow(dead_code))]
 pub fn position(state: &State, table: &[usize], position: usize, answer: &mut [usize; 3]) -> u8 {
     // SAFETY: each pointer and length are those of a live slice; the answer, which is written, is an exclusive borrow.
     unsafe {

@@ -1,23 +1,46 @@
 //! Tokens.
 
-use crate::Kind;
+use crate::{Kind, Pos, Position};
 use std::borrow::Cow;
+use std::ops::Range;
 
-/// A place among the positions: base + offset, in characters.
-pub type Pos = usize;
-
-/// A token.
-#[derive(Clone, Debug, PartialEq, Eq)]
+/// A token. It borrows from the source, not from the scanner.
+///
+/// ```
+/// # use cifgwezam::{Kind, Scanner};
+/// let source = "\tquota := 017";
+/// let mut scanner = Scanner::new(source)?;
+/// let tokens: Vec<_> = scanner.tokens().collect();
+///
+/// assert_eq!((tokens[0].kind, &*tokens[0].text), (Kind::Ident, "quota"));
+/// assert_eq!(tokens[0].position.to_string(), "1:2");
+/// assert_eq!((tokens[1].kind, tokens[1].range.clone()), (Kind::Define, 7..9));
+/// // old octal numbers are shown with an o
+/// assert_eq!((&*tokens[2].text, &source[tokens[2].range.clone()]), ("0o17", "017"));
+/// assert_eq!((tokens[3].kind, tokens[3].inserted), (Kind::Semicolon, true));
+/// # Ok::<(), cifgwezam::Refusal>(())
+/// ```
+#[derive(Clone, Debug, PartialEq, Eq, Hash)]
 pub struct Token<'src> {
     /// What it is.
     pub kind: Kind,
-    /// Whether it is a semicolon that does not stand in the source.
+    /// Whether it is a semicolon that the scanner inserted at the end of a line.
     pub inserted: bool,
-    /// Its text; none for operators, keywords and EOF. It is a part of the source, or a copy where the
-    /// scanner changes what was read: `017` has the text `0o17`, and CRs are dropped from comments.
-    pub text: Cow<'src, [u8]>,
-    /// The value of a string, its escapes read; of other tokens none.
+    /// The position of its first character: the scanner's base plus the offset.
+    pub pos: Pos,
+    /// The offset, line and column of its first character.
+    pub position: Position,
+    /// The bytes of the source that it was read from. The range is empty for EOF and for an inserted semicolon.
+    pub range: Range<usize>,
+    /// Its text; empty for operators, keywords and EOF, whose kind says it all.
+    ///
+    /// It is borrowed from the source, or copied where it differs from what was read: prefix and exponent of a
+    /// number are shown in lower case, `017` as `0o17`, comments and raw strings without CR, and a `//` comment always
+    /// with its LF.
+    pub text: Cow<'src, str>,
+    /// The content of a string after its escapes were read; empty for all other kinds. It need not be UTF-8: `"\xff"`
+    /// is one byte.
     pub value: Cow<'src, [u8]>,
-    /// The character that a character literal means; of other tokens none.
+    /// The character that a [`Kind::Char`] stands for.
     pub code: Option<char>,
 }

@@ -1,11 +1,11 @@
 //! Buffers that grow: no source is refused for want of room.
 
-use cifgwezam::{Kind, Scanner};
+use cifgwezam::{ErrorKind, Scanner};
 
 /// Scans to EOF and gives the scanner back.
 fn read(source: &[u8]) -> Scanner<'_> {
     let mut scanner = Scanner::new(source).unwrap();
-    while scanner.scan().unwrap().0.kind != Kind::Eof {}
+    scanner.tokens().for_each(drop);
     scanner
 }
 
@@ -22,28 +22,27 @@ fn the_table() {
 fn the_list() {
     let source = "08 ".repeat(5_000);
     let scanner = read(source.as_bytes());
-    assert_eq!(scanner.error_count(), 5_000);
-    let errors = scanner.errors().unwrap();
-    assert!(errors.iter().all(|error| error.number == 2));
-    assert_eq!(errors[4_999].position.offset, 4_999 * 3 + 1);
+    assert_eq!((scanner.error_count(), scanner.errors().len()), (5_000, 5_000));
+    assert!(scanner.errors().all(|error| error.kind == ErrorKind::BadOctal));
+    assert_eq!(scanner.errors().next_back().unwrap().position.offset, 4_999 * 3 + 1);
 }
 
 #[test]
 fn the_area() {
     let source = format!("`{}`", "a\r\n".repeat(100_000));
-    let (token, _) = Scanner::new(source.as_bytes()).unwrap().scan().unwrap();
+    let token = Scanner::new(&source).unwrap().scan();
     let value = "a\n".repeat(100_000);
     assert_eq!(*token.value, *value.as_bytes());
-    assert_eq!(*token.text, *format!("`{value}`").as_bytes());
+    assert_eq!(token.text, format!("`{value}`"));
 }
 
 #[test]
 fn the_longest_source() {
     let mut source = b"//".to_vec();
     source.resize(Scanner::MAX_SOURCE, b'c');
-    let (token, _) = Scanner::new(&source).unwrap().scan().unwrap();
-    assert_eq!(token.text.len(), Scanner::MAX_SOURCE + 1);
-    assert_eq!(token.text.last(), Some(&b'\n'));
+    let token = Scanner::new(&source).unwrap().scan();
+    assert_eq!((token.text.len(), token.range), (Scanner::MAX_SOURCE + 1, 0..Scanner::MAX_SOURCE));
+    assert!(token.text.ends_with('\n'));
     let source = vec![b'\n'; Scanner::MAX_SOURCE];
     assert_eq!(read(&source).line_count(), Scanner::MAX_SOURCE);
 }

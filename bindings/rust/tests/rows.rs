@@ -2,12 +2,44 @@
 
 mod common;
 
-use cifgwezam::Scanner;
-use common::listing;
+use cifgwezam::{Kind, Scanner, Token};
+
+fn hex(bytes: &[u8]) -> String {
+    if bytes.is_empty() {
+        return "-".to_string();
+    }
+    bytes.iter().map(|byte| format!("{byte:02x}")).collect()
+}
+
+/// Offset, line, column, kind and text, then the value of a string or a character. The text of a semicolon that is in
+/// the source is listed, too.
+fn line(token: &Token) -> String {
+    let at = token.position;
+    let written = token.kind == Kind::Semicolon && !token.inserted;
+    let text = hex(if written { b";" } else { token.text.as_bytes() });
+    let mut line = format!("{} {} {} {} {text}", at.offset, at.line, at.column, token.kind.number());
+    if token.kind == Kind::String {
+        line += &format!(" {}", hex(&token.value));
+    }
+    if let Some(code) = token.code {
+        line += &format!(" {:x}", code as u32);
+    }
+    line
+}
+
+/// A line for each token up to EOF, for each error, and for the line count.
+fn listing(mut scanner: Scanner) -> String {
+    let mut lines: Vec<_> = common::scanned(&mut scanner).iter().map(line).collect();
+    for error in scanner.errors() {
+        let at = error.position;
+        lines.push(format!("E {} {} {} {}", at.offset, at.line, at.column, error.kind.number()));
+    }
+    lines.push(format!("L {}", scanner.line_count()));
+    lines.join(" | ")
+}
 
 fn check(text: &str, expected: &str) {
-    let scanner = Scanner::new(text.as_bytes()).expect(text);
-    assert_eq!(listing(scanner).unwrap().join(" | "), expected, "{text:?}");
+    assert_eq!(listing(Scanner::new(text).expect(text)), expected, "{text:?}");
 }
 
 #[test]
@@ -31,9 +63,9 @@ fn the_ten_rows() {
 
 #[test]
 fn the_tenth_row_in_a_larger_size() {
-    let scanner = Scanner::with_size(b"`\n", 0, 3).unwrap();
+    let scanner = Scanner::with_size("`\n", 0, 3).unwrap();
     let expected = "0 1 1 9 600a 0a | 2 2 1 55 - | 2 2 1 2 - | E 2 2 1 6 | L 2";
-    assert_eq!(listing(scanner).unwrap().join(" | "), expected);
+    assert_eq!(listing(scanner), expected);
 }
 
 #[test]

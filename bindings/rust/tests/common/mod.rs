@@ -1,46 +1,33 @@
-//! Listings: a line for each token up to EOF, for each error, and for the line count.
+//! What the tests share. Each of them uses a part of it.
+#![allow(dead_code)]
 
-use cifgwezam::{Kind, Pos, Refusal, Scanner, Token};
+pub mod sources;
 
-fn hex(bytes: &[u8]) -> String {
-    if bytes.is_empty() {
-        return "-".to_string();
-    }
-    bytes.iter().map(|byte| format!("{byte:02x}")).collect()
-}
+use cifgwezam::{Kind, Scanner, Token};
 
-/// Offset, line, column, kind and text, then the value of a string or a character. The text of a semicolon that
-/// stands in the source is listed, too.
-fn line(scanner: &Scanner, token: &Token, pos: Pos) -> Result<String, Refusal> {
-    let at = scanner.position(pos)?;
-    let kind = token.kind as u8;
-    let written = token.kind == Kind::Semicolon && !token.inserted;
-    let text = hex(if written { b";" } else { &token.text });
-    let mut line = format!("{} {} {} {kind} {text}", at.offset, at.line, at.column);
-    if token.kind == Kind::String {
-        line += &format!(" {}", hex(&token.value));
-    }
-    if let Some(code) = token.code {
-        line += &format!(" {:x}", code as u32);
-    }
-    Ok(line)
-}
-
-/// The listing of a scanner that was just opened.
-pub fn listing(mut scanner: Scanner) -> Result<Vec<String>, Refusal> {
-    let mut lines = Vec::new();
+/// The tokens that are left, by one scan after the other; EOF is the last.
+pub fn scanned<'src>(scanner: &mut Scanner<'src>) -> Vec<Token<'src>> {
+    let mut tokens = Vec::new();
     loop {
-        let (token, pos) = scanner.scan()?;
-        lines.push(line(&scanner, &token, pos)?);
-        if token.kind == Kind::Eof {
-            break;
+        tokens.push(scanner.scan());
+        if tokens.last().is_some_and(|token| token.kind == Kind::Eof) {
+            return tokens;
         }
     }
-    for error in scanner.errors()? {
-        let at = error.position;
-        let number = error.number;
-        lines.push(format!("E {} {} {} {number}", at.offset, at.line, at.column));
+}
+
+/// Holds two scanners of the same source to each other: what they tell, and all that comes next.
+pub fn assert_same(one: &Scanner, other: &Scanner) {
+    let counts = |scanner: &Scanner| (scanner.line_count(), scanner.error_count());
+    assert_eq!(counts(one), counts(other), "{one:?}");
+    assert!(one.errors().eq(other.errors()), "{one:?}");
+    // a size may be very large
+    let last = one.base() + one.size().min(one.char_count() + 40);
+    for pos in one.base()..=last {
+        assert_eq!(one.position(pos), other.position(pos), "{one:?}");
     }
-    lines.push(format!("L {}", scanner.line_count()));
-    Ok(lines)
+    for line in 0..=one.line_count() + 1 {
+        assert_eq!(one.line_start(line), other.line_start(line), "{one:?}");
+    }
+    assert_eq!(scanned(&mut one.clone()), scanned(&mut other.clone()), "{one:?}");
 }

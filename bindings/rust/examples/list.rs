@@ -1,0 +1,53 @@
+//! Lists the tokens of a file, then its errors.
+//!
+//!     cargo run --example list -- FILE
+//!
+//! The status is 1 if the file cannot be read or is refused, or if it has errors.
+
+use cifgwezam::Scanner;
+use std::error::Error;
+use std::io::{self, BufWriter, Write};
+use std::process::ExitCode;
+
+/// Prints `line:column  KIND  text` for each token, and each error; tells whether there was none.
+fn list(source: &[u8], out: &mut impl Write) -> Result<bool, Box<dyn Error>> {
+    let mut scanner = Scanner::new(source)?;
+    for token in scanner.tokens() {
+        let place = token.position.to_string();
+        let kind = if token.inserted { "; (inserted)" } else { token.kind.name() };
+        if token.text.is_empty() {
+            writeln!(out, "{place:<8}{kind}")?;
+        } else {
+            writeln!(out, "{place:<8}{kind:<13} {}", token.text.trim_end().replace('\n', "\\n"))?;
+        }
+    }
+    for error in scanner.errors() {
+        writeln!(out, "error at {error}")?;
+    }
+    Ok(scanner.error_count() == 0)
+}
+
+/// Lists a file; tells whether it has no errors.
+fn run(file: &str) -> Result<bool, Box<dyn Error>> {
+    let source = std::fs::read(file)?;
+    let mut out = BufWriter::new(io::stdout().lock());
+    let clean = list(&source, &mut out)?;
+    out.flush()?;
+    Ok(clean)
+}
+
+fn main() -> ExitCode {
+    let mut words = std::env::args().skip(1);
+    let (Some(file), None) = (words.next(), words.next()) else {
+        eprintln!("usage: list FILE");
+        return ExitCode::from(2);
+    };
+    match run(&file) {
+        Ok(true) => ExitCode::SUCCESS,
+        Ok(false) => ExitCode::FAILURE,
+        Err(error) => {
+            eprintln!("list: {file}: {error}");
+            ExitCode::FAILURE
+        }
+    }
+}
