@@ -292,19 +292,19 @@ static inline int scanner_kind_precedence(size_t kind)
 static inline const char *scanner_error_text(size_t number)
 {
     switch (number) {
-    case SCANNER_ERROR_BINARY: return "bad binary number";
-    case SCANNER_ERROR_OCTAL: return "bad octal number";
-    case SCANNER_ERROR_HEXADECIMAL: return "bad hexadecimal number";
+    case SCANNER_ERROR_BINARY: return "bad binary number: no digits, or a digit above 1";
+    case SCANNER_ERROR_OCTAL: return "bad octal number: no digits, or a digit above 7";
+    case SCANNER_ERROR_HEXADECIMAL: return "bad hexadecimal number: no digits";
     case SCANNER_ERROR_UNDERSCORE: return "misplaced '_' in a number";
     case SCANNER_ERROR_EXPONENT: return "exponent has no digits";
     case SCANNER_ERROR_RAW_STRING: return "raw string is not closed";
     case SCANNER_ERROR_COMMENT: return "comment is not closed";
-    case SCANNER_ERROR_QUOTE: return "string or character is not closed";
+    case SCANNER_ERROR_QUOTE: return "string or character literal is not closed";
     case SCANNER_ERROR_ESCAPE: return "unknown escape";
-    case SCANNER_ERROR_ESCAPE_CUT: return "text ends inside an escape";
+    case SCANNER_ERROR_ESCAPE_CUT: return "source ends inside an escape";
     case SCANNER_ERROR_ESCAPE_CHAR: return "bad character in an escape";
     case SCANNER_ERROR_CODE_POINT: return "escape is not a Unicode code point";
-    case SCANNER_ERROR_CHAR: return "character literal must hold exactly one character";
+    case SCANNER_ERROR_CHAR: return "character literal must have exactly one character";
     default: return "unknown error";
     }
 }
@@ -314,17 +314,18 @@ static inline const char *scanner_refusal_text(size_t number)
 {
     switch (number) {
     case SCANNER_OK: return "no refusal";
-    case SCANNER_NOT_UTF8: return "the source is not UTF-8";
-    case SCANNER_TOO_LONG: return "the source is longer than 1,048,576 bytes";
+    case SCANNER_NOT_UTF8: return "source is not UTF-8";
+    case SCANNER_TOO_LONG: return "source has more than 1,048,576 bytes";
     case SCANNER_SIZE:
-        return "the size is below the number of characters, or base + size is too large";
-    case SCANNER_POSITION: return "the position is outside the source";
-    case SCANNER_NO_LINE: return "there is no such line";
+        return "size is less than the number of characters, or base + size is more than "
+               "4,294,967,295";
+    case SCANNER_POSITION: return "position is outside the source";
+    case SCANNER_NO_LINE: return "no such line was read";
     case SCANNER_DOES_NOT_FIT: return "state, source and buffers do not fit together";
-    case SCANNER_TABLE_FULL: return "the line table is full";
-    case SCANNER_LIST_FULL: return "the error list is full";
-    case SCANNER_AREA_FULL: return "the text area is too small";
-    case SCANNER_NO_MEMORY: return "there is not enough memory";
+    case SCANNER_TABLE_FULL: return "line table is full";
+    case SCANNER_LIST_FULL: return "error list is full";
+    case SCANNER_AREA_FULL: return "text area is too small";
+    case SCANNER_NO_MEMORY: return "not enough memory";
     default: return "unknown refusal";
     }
 }

@@ -40,7 +40,7 @@ error_kinds! {
     /// A hexadecimal number has no digits.
     BadHexadecimal = 3, "bad hexadecimal number: no digits";
     /// An `_` in a number is neither between digits nor after the prefix.
-    MisplacedUnderscore = 4, "misplaced `_` in a number";
+    MisplacedUnderscore = 4, "misplaced '_' in a number";
     /// An exponent has no digits.
     BadExponent = 5, "exponent has no digits";
     /// A raw string is not closed.

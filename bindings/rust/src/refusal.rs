@@ -46,8 +46,8 @@ impl fmt::Display for Refusal {
     fn fmt(&self, f: &mut fmt::Formatter<'_>) -> fmt::Result {
         f.write_str(match self {
             Refusal::NotUtf8 { place } => return write!(f, "source is not UTF-8: see byte {place}"),
-            Refusal::TooLong => "source has more than 1048576 bytes",
-            Refusal::Size => "size is less than the number of characters, or base + size is more than 4294967295",
+            Refusal::TooLong => "source has more than 1,048,576 bytes",
+            Refusal::Size => "size is less than the number of characters, or base + size is more than 4,294,967,295",
             Refusal::Position => "position is outside the source",
             Refusal::Line => "no such line was read",
         })

@@ -53,8 +53,9 @@ fn in_words() {
     }
     let shown = Refusal::NotUtf8 { place: 1 }.to_string();
     assert_eq!(shown, "source is not UTF-8: see byte 1");
-    assert!(Refusal::TooLong.to_string().contains(&Scanner::MAX_SOURCE.to_string()));
-    assert!(Refusal::Size.to_string().contains(&Scanner::MAX_POSITION.to_string()));
+    let digits = |refusal: Refusal| refusal.to_string().replace(',', "");
+    assert!(digits(Refusal::TooLong).contains(&Scanner::MAX_SOURCE.to_string()));
+    assert!(digits(Refusal::Size).contains(&Scanner::MAX_POSITION.to_string()));
     let error: Box<dyn std::error::Error> = Box::new(Refusal::Line);
     assert_eq!(error.to_string(), "no such line was read");
 }
