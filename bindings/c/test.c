@@ -542,7 +542,7 @@ static void test_texts(void)
     check(strcmp(scanner_error_text(SCANNER_ERROR_CHAR + 1), "unknown error") == 0, "no error");
     check(strcmp(scanner_refusal_text(SCANNER_AREA_FULL + 1), "unknown refusal") == 0,
           "no refusal of the library");
-    check(strcmp(scanner_refusal_text(SCANNER_NO_MEMORY), "there is not enough memory") == 0,
+    check(strcmp(scanner_refusal_text(SCANNER_NO_MEMORY), "not enough memory") == 0,
           "the text of 255");
 }
 
