@@ -10,19 +10,16 @@ use std::io::{self, BufWriter, Write};
 use std::process::ExitCode;
 
 /// Prints `line:column  KIND  text` for each token, and each error; tells whether there was none.
-fn list(source: &[u8], out: &mut impl Write) -> Result<bool, Box<dyn Error>> {
+fn list(file: &str, source: &[u8], out: &mut impl Write) -> Result<bool, Box<dyn Error>> {
     let mut scanner = Scanner::new(source)?;
     for token in scanner.tokens() {
         let place = token.position.to_string();
-        let kind = if token.inserted { "; (inserted)" } else { token.kind.name() };
-        if token.text.is_empty() {
-            writeln!(out, "{place:<8}{kind}")?;
-        } else {
-            writeln!(out, "{place:<8}{kind:<13} {}", token.text.trim_end().replace('\n', "\\n"))?;
-        }
+        let text = if token.inserted { "(inserted)".into() } else { token.text.trim_end().replace('\n', "\\n") };
+        let line = format!("{place:<6}  {:<7}  {text}", token.kind);
+        writeln!(out, "{}", line.trim_end())?;
     }
     for error in scanner.errors() {
-        writeln!(out, "error at {error}")?;
+        writeln!(out, "{file}:{error}")?;
     }
     Ok(scanner.error_count() == 0)
 }
@@ -31,7 +28,7 @@ fn list(source: &[u8], out: &mut impl Write) -> Result<bool, Box<dyn Error>> {
 fn run(file: &str) -> Result<bool, Box<dyn Error>> {
     let source = std::fs::read(file)?;
     let mut out = BufWriter::new(io::stdout().lock());
-    let clean = list(&source, &mut out)?;
+    let clean = list(file, &source, &mut out)?;
     out.flush()?;
     Ok(clean)
 }
