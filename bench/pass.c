@@ -54,7 +54,7 @@ size_t pass_by_struct(const uint8_t *src, size_t len, size_t *sum)
     uint8_t refusal = scanner_init(&s, src, len);
     while (refusal == SCANNER_OK && (refusal = scanner_next(&s, &token)) == SCANNER_OK) {
         tokens++;
-        total += token.position + token.text.len;
+        total += token.position + token.line + token.column + token.text.len;
         if (token.kind == SCANNER_KIND_EOF)
             break;
     }

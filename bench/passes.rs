@@ -1,7 +1,7 @@
 //! Passes that the benchmarks time: a source is opened and scanned to EOF by our scanner, in each of the ways that it
 //! can be called. A pass gives the number of tokens, EOF among them; 0 if the source was refused.
 
-use cifgwezam::{Kind, Scanner};
+use cifgwezam::{Kind, Scanner, Token};
 use std::hint::black_box;
 
 /// The number of tokens of a source.
@@ -70,13 +70,18 @@ pub fn rust_batches(source: &str) -> usize {
     tokens
 }
 
+/// What a pass reads of a token that carries its line and column.
+fn seen(token: &Token) -> usize {
+    token.pos + token.position.line + token.position.column + token.text.len()
+}
+
 /// In Rust, by `tokens`.
 pub fn rust_tokens(source: &str) -> usize {
     let Ok(mut scanner) = Scanner::new(source) else { return 0 };
     let (mut tokens, mut sum) = (1, 0);
     for token in scanner.tokens() {
         tokens += 1;
-        sum += token.pos + token.text.len();
+        sum += seen(&token);
     }
     black_box(sum);
     tokens
@@ -89,7 +94,7 @@ pub fn rust_scan(source: &str) -> usize {
     loop {
         let token = scanner.scan();
         tokens += 1;
-        sum += token.pos + token.text.len();
+        sum += seen(&token);
         if token.kind == Kind::Eof {
             black_box(sum);
             return tokens;
