@@ -162,7 +162,7 @@ impl Run<'_> {
             written = self.check_part(VALUE, start + 1, &read[1..end], written)?;
         }
         if self.area[written..].iter().any(|b| *b != UNWRITTEN) {
-            return Err("bytes written behind the value".into());
+            return Err("bytes written after the value".into());
         }
         Ok(())
     }

@@ -20,7 +20,7 @@ use Rattle.parts.specs.Layout.{tokenWidth, tokenNumbers}
 use Rattle.batch.specs.Many.{ManyRun, ManyLeft, isLast, stopped, tokenBefore, manyOf, tokensNumbers, tokenRoom, leftAfter, manyRefused, scanManyOf}
 use Rattle.scanner.proofs.Scans.{scan-unfit, scan-kept}
 
--- one token before the others is one more that they stand behind
+-- one token before the others is one more that they come after
 left-next : (n : ℕ) (tokens : List ℕ) (t : Token) (r : ManyRun) → leftAfter n tokens (tokenBefore t r) ≡ leftAfter (n + 1) (sets tokens (n * tokenWidth) (tokenNumbers t)) r
 unfolding tokensNumbers
 left-next n tokens t r =
@@ -94,7 +94,7 @@ module _ (src : List ℕ) (s : State) (table list area tokens : List ℕ) where
       cond-ind Kept (ltb (length tokens) tokenWidth) (manyRefused DOES-NOT-FIT s table list area tokens) (cond (eqb n 0) some kept) (λ _ _. refl)
       (λ _. cond-ind Kept (eqb n 0) some kept (λ _ h. absurd (h refl)) (λ _ _. refl))
 
-  -- scans that came to their end behind so many tokens
+  -- scans that came to their end after so many tokens
   module _ (enough : tokenWidth ≤ length tokens) (s′ : State) (table′ list′ area′ tokens′ : List ℕ) (count : ℕ)
       (e : leftAfter 0 tokens (manyOf (tokenRoom tokens) src s table list area) ≡ leftAfter count tokens′ (stopped s′ table′ list′ area′)) where
     some-room : tokenRoom tokens ≡ suc (tokenRoom tokens - 1)

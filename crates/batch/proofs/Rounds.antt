@@ -1,4 +1,4 @@
--- Runs and rounds one behind the other, and the round of one scan.
+-- Runs and rounds one after the other, and the round of one scan.
 use Prim.Native.Nat.{ℕ, _+_, _-_, _*_, _≤_, _<_}
 use mathlib.Core.Path.{_≡_, refl, sym, ap, _∙_}
 use mathlib.Core.Bool.{Bool, true, false, cond, not, _&&_, false≢true}
@@ -77,7 +77,7 @@ module _ (room : ℕ) (src : List ℕ) where
       pub comes-none : r .count ≡ 0 → scanOf src s table list area .answer .refusal ≡ r .refusal
       comes-none z = rw f at (c .same z)
 
-    -- ---- behind a run
+    -- ---- after a run
     module _ {n n′ : ℕ} {s′ : State} {table′ tokens′ : List ℕ} (run : Leads room src list s table tokens n s′ table′ tokens′ n′) where
       -- to the end of the room
       pub comes-full : n < room → n′ ≡ room → Comes room src s table list area tokens n (record { more = false; state = s′; refusal = 0; count = room }) table′ list area tokens′

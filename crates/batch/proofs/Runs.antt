@@ -80,7 +80,7 @@ module _ (src : List ℕ) (place : ℕ) (mark : Bool) (n : Near) (near : nearAs 
       let w = skip-line-within mark (chars (drop place src)) in
       (omega (arith, e), omega (arith, l), omega (arith, e, l, w))
 
--- ---- a step of a run: a simple token behind such blanks
+-- ---- a step of a run: a simple token after such blanks
 module _ (src : List ℕ) (first : State) (safe : ℕ) (is-safe : IsSafe src first safe) (table list : List ℕ) (place lines : ℕ) (mark : Bool)
     (over : first .place ≤ place) (low : first .offset ≤ first .size) (holds : fits (stateAt first place mark lines) src table list ≡ true)
     (n : Near) (near : nearAs n ≡ skippedAt place (skip mark (chars (drop place src)))) (early : n .end < safe)
@@ -138,7 +138,7 @@ module _ (src : List ℕ) (first : State) (safe : ℕ) (is-safe : IsSafe src fir
       ∙ ap (λ l. leftAfter (count + 1) l (manyOf (room - (count + 1)) src stepped table′ list area)) (sym written)
       ∙ ap (λ t. leftAfter (count + 1) tokens′ (manyOf (room - (count + 1)) src t table′ list area)) there-is
 
-  -- to the count behind it, with the line starts that there are then
+  -- to the count after it, with the line starts that there are then
   pub step : (room count lines′ : ℕ) → to ≡ count * tokenWidth → count < room → lines′ ≡ lines + cond (n .lf) 1 0
       → Leads room src list here table tokens count (stateAt first (r .place) (r .mark) lines′) table′ tokens′ (count + 1)
   step room count lines′ at h e = rw e (record { fit = step-fits; over = omega arith; within = omega arith; left = step-more room count at h; same = λ z. absurd (omega (arith, z)) })

@@ -1,4 +1,4 @@
--- A plain token behind blanks with at most one line feed is given as a scan gives it, where it ends before the size and the table has room.
+-- A plain token after blanks with at most one line feed is given as a scan gives it, where it ends before the size and the table has room.
 use Prim.Native.Nat.{ℕ, _+_, _-_, _≤_, _<_}
 use mathlib.Core.Path.{_≡_, sym, ap, _∙_}
 use mathlib.Core.Bool.{true, false}
@@ -44,7 +44,7 @@ module _ (s : State) (b : Skipped) (table table′ : List ℕ) where
   recorded-length (inl w) = ap length (w .1)
   recorded-length (inr w) = ap length (w .2) ∙ length-set table (s .lines) (s .offset + (b .line - s .place))
 
--- ---- a plain token of ASCII characters without a line feed, behind its blanks
+-- ---- a plain token of ASCII characters without a line feed, after its blanks
 module _ (src : List ℕ) (s : State) (table list : List ℕ) (b : Skipped) (x : Lexed) (holds : fits s src table list ≡ true) (r : Reads src s b x)
     (p : isPlain x ≡ true) (ascii : x .chars ≡ x .end - b .end) (feeds : x .lfs ≡ 0) where
   abbrev start : ℕ
@@ -93,7 +93,7 @@ module _ (src : List ℕ) (s : State) (table list : List ℕ) (b : Skipped) (x :
         (sym (ap (λ n. b .lfs + n) feeds ∙ add-zero (b .lfs)) ∙ feeds-read src s start start-at x (r .token) feeds-at)
         inside
 
-    -- one line feed among them starts the line behind it
+    -- one line feed among them starts the line after it
     one-start : b .lfs ≡ 1 → startsFrom src s here ≡ (s .offset + (b .line - s .place)) ∷ []
     one-start f =
         let k : skip (s .mark) (left src s start) .line ≡ b .line - s .place = omega (arith, line-at) in
@@ -129,6 +129,6 @@ module _ (src : List ℕ) (s : State) (table list : List ℕ) (b : Skipped) (x :
           scan-gave src s table list area kept start start-at x (r .token) holds (b .lfs) counted (passes area)
           ∙ sym (commit-plain-is src s start x here (b .lfs) table list area p (written w) answer-is)
 
-      -- scans go on behind it
+      -- scans go on after it
       pub goes-on : eqb (x .kind) EOF ≡ false → isLast token ≡ false
       goes-on k = rw (plain x p .1, plain x p .2) k

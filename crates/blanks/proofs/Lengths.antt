@@ -1,4 +1,4 @@
--- Laws of how many blanks are skipped: they are a run, its bound, and more text behind.
+-- Laws of how many blanks are skipped: they are a run, its bound, and more text after it.
 use Prim.Native.Nat.{ℕ, suc, _+_, _≤_}
 use mathlib.Core.Path.{_≡_, refl, sym, ap}
 use mathlib.Core.Bool.{Bool, true, false, cond}
@@ -39,7 +39,7 @@ mark-stops r h e =
     let l = run-local (skip-run true) (unfold isBlank isSpace in refl) r [] h .1 in
     omega (arith, l, length-drop (skip true r .len) r, ap length e)
 
--- blanks that do not reach the end are the same with more behind
+-- blanks that do not reach the end are the same with more after it
 pub skip-inside : (mark : Bool) (r t : List Char) → drop (skip mark r .len) r ≢ [] → skip mark (r ++ t) ≡ skip mark r
 unfolding skip
 skip-inside mark [] t h = absurd (h refl)

@@ -1,4 +1,4 @@
--- In a text that ends in an LF an escape is the same with more text behind.
+-- In a text that ends in an LF an escape is the same with more text after it.
 use Prim.Native.Nat.{ℕ, zero, suc, _+_, _*_, _≤_}
 use mathlib.Core.Path.{_≡_, refl}
 use mathlib.Core.List.{List, [], _∷_, _++_}

@@ -33,7 +33,7 @@ pub encode-ascii : (b : ℕ) → b < 0x80 → encode b ≡ b ∷ []
 unfolding encode octets
 encode-ascii b h = rw (lt-ltb b 0xD800 (omega arith), lt-ltb b 0x80 h)
 
--- one ASCII character, and more behind it
+-- one ASCII character, and more after it
 module _ (k : ℕ) (s : List ℕ) (p : ℕ) (h : p < length s) (low : getD s p 0 < 0x80) (no-lf : getD s p 0 ≢ 10) (more : AsciiFacts k s (p + 1)) where
   step-ascii : AsciiFacts (suc k) s p
   step-ascii =

@@ -13,7 +13,7 @@ use Rattle.lexer.specs.Lexeme.{Lexeme, Shut, shown, insertedSemicolon}
 use Rattle.lexer.proofs.LexLaws.{Moves}
 use Rattle.lexer.proofs.Known.{Known}
 
--- x is the token of r under the mark m, x′ the one with more text behind r
+-- x is the token of r under the mark m, x′ the one with more text after r
 pub record Fine (m : Bool) (r : List Char) (x x′ : Lexeme) : Type 0 where
   -- blanks are skipped before it
   pub none : x .skipped ≡ 0
@@ -21,7 +21,7 @@ pub record Fine (m : Bool) (r : List Char) (x x′ : Lexeme) : Type 0 where
   pub bound : x .len ≤ length r
   -- it is EOF only at the end, with no mark
   pub only : x .kind ≡ EOF → (m ≡ false) × (r ≡ [])
-  -- it does not depend on what stands behind the last line feed, and does not read it if it leaves a mark
+  -- it does not depend on what comes after the last line feed, and does not read it if it leaves a mark
   pub local : Ends r → Shut (x .error) → (x′ ≡ x) × (x .mark ≡ true → x .len < length r)
   -- it reads a character or is an inserted semicolon
   pub moves : x .kind ≢ EOF → Moves m x
@@ -31,7 +31,7 @@ module _ (m : Bool) (r : List Char) where
   fine-cond true x x′ y y′ f g = f refl
   fine-cond false x x′ y y′ f g = g refl
 
-  -- what more text behind does is asked only of a text that ends in a line feed
+  -- what more text after does is asked only of a text that ends in a line feed
   pub fine-to : (x x′ y : Lexeme) → Fine m r x y → (Ends r → x′ ≡ y) → Fine m r x x′
   fine-to x x′ y f e =
       record {

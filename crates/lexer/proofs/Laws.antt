@@ -81,7 +81,7 @@ module _ (m : Bool) (r : List Char) where
   unfolding lex
   law-moves k = fine [] .moves k
 
-  -- a text that ends in a line feed still does behind its blanks, unless EOF is there
+  -- a text that ends in a line feed still does after its blanks, unless EOF is there
   kept : Ends r → lex m r .kind ≢ EOF → Ends rest
   unfolding lex lexToken
   kept h k =

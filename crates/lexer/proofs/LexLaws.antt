@@ -15,15 +15,15 @@ abbrev pub Moves : Bool → Lexeme → Type 0
 Moves m x =
     ((0 < x .len) × (x .inserted ≡ false)) ⊎ ((m ≡ true) × (x .len ≡ 0) × (x .inserted ≡ true) × (x .mark ≡ false) × (x .kind ≡ SEMICOLON))
 
--- m is the mark, r the characters left, t more text behind them
+-- m is the mark, r the characters left, t more text after them
 pub record LexLaws (lex : Bool → List Char → Lexeme) : Type 0 where
   -- no more is read than is there
   pub bound : (m : Bool) (r : List Char) → taken (lex m r) ≤ length r
   -- at the end, with no mark, is EOF
   pub end : lex false [] ≡ bare EOF 0 false
-  -- where EOF is found only blanks are left, and the next scan over more text starts behind them with no mark
+  -- where EOF is found only blanks are left, and the next scan over more text starts after them with no mark
   pub blank : (m : Bool) (r t : List Char) → lex m r .kind ≡ EOF → lex m (r ++ t) ≡ raise (length r) (lex false t)
-  -- a token of a text that ends in a line feed does not depend on more text behind
+  -- a token of a text that ends in a line feed does not depend on more text after it
   pub local : (m : Bool) (r t : List Char) → Ends r → lex m r .kind ≢ EOF → Shut (lex m r .error) → lex m (r ++ t) ≡ lex m r
   -- a token that reads the last line feed leaves no mark
   pub seam : (m : Bool) (r : List Char) → Ends r → lex m r .kind ≢ EOF → Shut (lex m r .error) → drop (taken (lex m r)) r ≡ [] → lex m r .mark ≡ false

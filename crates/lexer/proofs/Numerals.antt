@@ -82,7 +82,7 @@ second-lowered (a ∷ b ∷ cs) l u n =
     let c = b .code in
     rw (encode-ascii (a .code) l, encode-ascii c (omega (arith, between-true 65 c 90 u .1)), u, ne-eqb c 69 n, ne-eqb (c + 32) c (λ e. omega arith), and-false)
 
--- a difference behind is one of the whole
+-- a later difference is one of the whole
 behind : (front bytes : List ℕ) → same (lowerE bytes) bytes ≡ false → same (lowerE (front ++ bytes)) (front ++ bytes) ≡ false
 unfolding same
 behind [] bytes e = e

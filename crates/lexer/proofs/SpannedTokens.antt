@@ -179,7 +179,7 @@ module _ (s : List ℕ) (at : ℕ) (there : getD s at 0 ≡ 96) (b : Body) (is :
       ∙ ap (λ l. lexemeAs (suc (rawSpan .len)) STRING (cond (rawSpan .closed) 0 OPEN-RAW-STRING) 0 true (clean (take (suc (rawSpan .len)) r)) (clean (take (rawInside rawSpan) l))) raw-rest
       ∙ ap (λ k. lexemeAs k STRING (cond (rawSpan .closed) 0 OPEN-RAW-STRING) 0 true (clean (take k r)) rawValue) n
 
-  -- the bytes of the value are the first k characters behind the backquote, of w bytes, with the CRs and stray bytes of the whole
+  -- the bytes of the value are the first k characters after the backquote, of w bytes, with the CRs and stray bytes of the whole
   raw-value : (k : ℕ) → rawInside rawSpan ≡ k → count isCr (take (rawSpan .len) (chars (drop (at + 1) s))) ≡ count isCr (take k (chars (drop (at + 1) s)))
       → count isStray (take (rawSpan .len) (chars (drop (at + 1) s))) ≡ count isStray (take k (chars (drop (at + 1) s)))
       → (length rawValue + b .crs ≡ widths (take k (chars (drop (at + 1) s))) + 2 * b .strays)

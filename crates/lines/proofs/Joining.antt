@@ -70,7 +70,7 @@ module _ (n : ℕ) (first : List ℕ) where
       go true = sym (over-snoc s x)
       go false = refl
 
-  -- at an offset n characters on, with n characters less behind
+  -- at an offset n characters on, with n characters less after
   pub over-read : (size o : ℕ) (cs : List Char) (s : List ℕ) → 1 ≤ length s → readLines size (n + o) cs (over n first s) ≡ over n first (readLines (size - n) o cs s)
   unfolding readLines
   over-read size o [] s h = refl

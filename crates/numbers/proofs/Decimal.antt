@@ -36,7 +36,7 @@ other-high b d =
     (cond-ind (λ v. 10 ≤ v) (between (code "a") b (code "f")) _ _ (λ t. omega (arith, between-true (code "a") b (code "f") t))
     (λ _. cond-ind (λ v. 10 ≤ v) (between (code "A") b (code "F")) _ _ (λ t. omega (arith, between-true (code "A") b (code "F") t)) (λ _. omega arith)))
 
--- n digits, and behind them neither a digit nor an underscore
+-- n digits, and after them neither a digit nor an underscore
 run-of : (s : List ℕ) (n at end : ℕ) → at + n ≡ end → ((p : ℕ) → at ≤ p → p < end → isDecimal (getD s p 0) ≡ true)
     → isDecimal (getD s end 0) ≡ false → getD s end 0 ≢ code "_" → digitRun 10 false (chars (drop at s)) ≡ record { len = n; misplaced = false }
 run-of s zero at end e all d u =

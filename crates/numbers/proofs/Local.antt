@@ -1,4 +1,4 @@
--- A number in a text that ends in a line feed does not read that line feed, and is the same with more text behind.
+-- A number in a text that ends in a line feed does not read that line feed, and is the same with more text after it.
 use Prim.Native.Nat.{ℕ, suc, _+_, _≤_, _<_}
 use Prim.Native.Char.{code}
 use mathlib.Core.Path.{_≡_, refl, ap}
@@ -64,7 +64,7 @@ Local f r t = (f (r ++ t) ≡ f r) × (f r .len < length r)
 abbrev Locally : (List Char → Numeral) → Type 0
 Locally f = (r t : List Char) → Ends r → Local f r t
 
--- a choice by a test that more text behind does not change
+-- a choice by a test that more text after does not change
 by-test : (r t : List Char) (p q : Bool) (a b c d : Numeral) → p ≡ q → (q ≡ true → (a ≡ c) × (c .len < length r)) → (q ≡ false → (b ≡ d) × (d .len < length r))
     → (cond p a b ≡ cond q c d) × (cond q c d .len < length r)
 by-test r t p true a b c d e f g = let h = f refl in (rw e (h .0), h .1)

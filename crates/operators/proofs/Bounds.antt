@@ -1,4 +1,4 @@
--- Laws of the longest operator: its bounds, more text behind a line feed, when there is none, and its kind.
+-- Laws of the longest operator: its bounds, more text after a line feed, when there is none, and its kind.
 use Prim.Native.Nat.{ℕ, suc, _≤_, _<_}
 use Prim.Native.Char.{code}
 use mathlib.Core.Path.{_≡_, refl}

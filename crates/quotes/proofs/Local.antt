@@ -1,4 +1,4 @@
--- A body reads characters of the text and no LF; in a text that ends in an LF it is the same with more text behind.
+-- A body reads characters of the text and no LF; in a text that ends in an LF it is the same with more text after it.
 use Prim.Native.Nat.{ℕ, zero, suc, _+_, _≤_, _<_, suc-le-suc}
 use mathlib.Core.Path.{_≡_, sym, subst}
 use mathlib.Core.List.{List, [], _∷_, _++_}
@@ -73,6 +73,6 @@ module _ (quote : ℕ) (q : quote ≡ 10 → ⊥) where
       ))
       (ends-next c r h)
 
-  -- the body is the same with more text behind, and does not read the line feed
+  -- the body is the same with more text after it, and does not read the line feed
   pub body-local : (r t : List Char) → Ends r → (body quote (r ++ t) ≡ body quote r) × (body quote r .len < length r)
   body-local r t h = (from-local r t 0 (ends-some r h) h, before _ r (whole NoLf (λ c n. n) quote q r) h)

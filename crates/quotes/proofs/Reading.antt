@@ -28,7 +28,7 @@ module _ (quote : ℕ) (low : quote < 0x80) (s : List ℕ) (p : ℕ) (h : p < le
     unfolding bodyFrom
     at-lf e = rw (chars-ascii s p h (omega arith), ne-eqb _ _ no-quote, eq-eqb _ _ e)
 
-    -- after a backslash the escape there, and then the body behind it
+    -- after a backslash the escape there, and then the body after it
     pub at-slash : getD s p 0 ≡ 92 → (x : Escape) → x ≡ escapeOf quote (chars (drop (p + 1) s))
         → body quote (chars (drop p s)) ≡ escape (suc (x .len)) (x .meaning) (body quote (chars (drop (p + (x .len + 1)) s)))
     unfolding bodyFrom

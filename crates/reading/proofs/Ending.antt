@@ -52,7 +52,7 @@ module _ (lex : Lexer) (laws : LexLaws lex) where
       ap (λ x. after size x s) (at-end s e f)
       ∙ reading-path _ _ refl (add-zero (s .place)) (add-zero (s .offset)) refl (append-nil (s .errors)) (sym f)
 
-  -- ---- before EOF, with more text behind
+  -- ---- before EOF, with more text after it
   module _ (size : ℕ) (s : Reading) (k : scanned lex s .kind ≢ EOF) (e : Shut (scanned lex s .error)) where
     pub next-ends : EndsOrDone s → EndsOrDone (next lex size s)
     unfolding next after scanned
@@ -99,7 +99,7 @@ module _ (lex : Lexer) (laws : LexLaws lex) where
     unfolding scanned withMore
     scanned-behind t = laws .blank (s .mark) (s .rest) t k
 
-    -- with more text behind, a scan there is one behind the blanks
+    -- with more text after it, a scan there is one after the blanks
     pub next-over : (t : List Char) → next lex size (withMore t s) ≡ next lex size (withMore t (next lex size s))
     unfolding next scanned withMore passedOver
     next-over t =

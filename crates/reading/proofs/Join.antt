@@ -49,7 +49,7 @@ module _ (lex : Lexer) (laws : LexLaws lex) (base size : ℕ) (t₁ t₂ : List 
   both : ℕ → Reading
   both i = run lex size (opened (t₁ ++ t₂)) i
 
-  -- ---- up to scan a the joined run is the first, with more text behind
+  -- ---- up to scan a the joined run is the first, with more text after it
   shut-at : (i : ℕ) → i ≤ a → Shut (scanned lex (first i) .error)
   unfolding first
   shut-at i h =

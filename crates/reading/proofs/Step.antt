@@ -1,4 +1,4 @@
--- What one lexeme does to a reading with more text behind it, one that passes over blanks, or one in the second of two joined texts.
+-- What one lexeme does to a reading with more text after it, one that passes over blanks, or one in the second of two joined texts.
 use Prim.Native.Nat.{ℕ, _+_, _-_, _≤_}
 use mathlib.Core.Path.{_≡_, refl, sym, ap, _∙_}
 use mathlib.Core.Bool.{Bool, true, false, cond}
@@ -24,7 +24,7 @@ use Rattle.reading.specs.Reading.{Reading, errorAt, newErrors, after}
 use Rattle.reading.specs.Run.{token, move}
 use Rattle.reading.specs.Joined.{moveError}
 
--- ---- more text behind what is left
+-- ---- more text after what is left
 unfoldable pub withMore : List Char → Reading → Reading
 withMore t s = record { rest = s .rest ++ t; place = s .place; offset = s .offset; lines = s .lines; errors = s .errors; mark = s .mark }
 
@@ -54,7 +54,7 @@ pub after-blank : (size : ℕ) (s : Reading) → after size (raise (length (s .r
 unfolding after passedOver
 after-blank size s = simp (add-zero, take-length, drop-length, append-nil)
 
--- what is read behind the blanks
+-- what is read after the blanks
 module _ (size : ℕ) (x : Lexeme) (s : Reading) (t : List Char) where
   pub after-raise : after size (raise (length (s .rest)) x) (withMore t s) ≡ after size x (withMore t (passedOver size s))
   unfolding after passedOver withMore
@@ -74,7 +74,7 @@ module _ (size : ℕ) (x : Lexeme) (s : Reading) (t : List Char) where
   token-raise base =
       rw (← add-assoc (s .offset) (length (s .rest)) (x .skipped), take-append-add, widths-append, ← add-assoc (s .place))
 
--- ---- the second of two joined texts: behind so many characters and bytes, line starts and errors
+-- ---- the second of two joined texts: after so many characters and bytes, line starts and errors
 unfoldable pub behind : ℕ → ℕ → List ℕ → List Error → Reading → Reading
 behind characters bytes starts errors s =
     record {

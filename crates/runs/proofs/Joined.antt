@@ -131,7 +131,7 @@ module _ (x y : List ℕ) (base size : ℕ) (h h₁ h₂ : Held) (closed : Close
   both-token : (k : ℕ) → tokenAt lex base size (opened (chars (x ++ y))) k ≡ tokenAt lex base size (opened (t₁ ++ t₂)) k
   both-token k = ap (λ t. tokenAt lex base size (opened t) k) both
 
-  -- a token of the first run shows the same with y behind x
+  -- a token of the first run shows the same with y after x
   kept : (i : ℕ) → seenOf (x ++ y) (tokenAt lex base size (opened t₁) i) ≡ shownAt x base size i
   unfolding tokenAt token
   kept i =

@@ -46,7 +46,7 @@ seen-moved x y t =
     )
 
 -- ---- tokens of the first text
--- what stands in a text behind its first characters
+-- what stands in a text after its first characters
 chars-behind : (s : List ℕ) (p q : List Char) → chars s ≡ p ++ q → chars (drop (widths p) s) ≡ q
 chars-behind s p q e = rw (e, take-append-seam p q, drop-append-seam p q, zero-add) at (place-chars (length p) s 0)
 
@@ -70,7 +70,7 @@ placed-kept x y l p q g e h =
       take-append-le (widths (take (l .len) q)) (drop (widths p) x) y inside,
     )
 
--- a token of the first is the same with more text behind
+-- a token of the first is the same with more text after it
 pub seen-kept : (x y : List ℕ) (t : Token) (p q : List Char) → wellFormed x ≡ true → p ++ q ≡ chars x → t .start ≡ widths p → t .len ≤ length q
     → seenOf (x ++ y) t ≡ seenOf x t
 unfolding seenOf

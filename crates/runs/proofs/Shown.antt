@@ -31,7 +31,7 @@ part-shown : (buffer : List ℕ) (area : Bool) (start : ℕ) (bytes : List ℕ) 
 part-shown buffer area start bytes h e =
     rw (le-leb start (start + length bytes) (omega arith), le-leb (start + length bytes) (length buffer) h, add-sub-cancel-left start (length bytes), e)
 
--- between what stands before it and behind it
+-- between what stands before it and after it
 inside-shown : (before bytes behind : List ℕ) (area : Bool) → shownIn (before ++ (bytes ++ behind)) (partFrom area (length before) (length bytes)) ≡ shows bytes
 inside-shown before bytes behind area =
     part-shown (before ++ (bytes ++ behind)) area (length before) bytes
@@ -45,7 +45,7 @@ source-shown src start k bytes h e =
     let l : length bytes ≡ k = ap length e ∙ length-take-le k (drop start src) (omega (arith, length-drop start src)) in
     part-shown src false start bytes (omega arith) (rw l (sym e))
 
--- ---- the text, written first, with anything behind it
+-- ---- the text, written first, with anything after it
 text-by : (src : List ℕ) (start k : ℕ) (text behind : List ℕ) → start + k ≤ length src → (t : Bool) → textDiffersIn text (take k (drop start src)) ≡ t
     → shownOf src (cond t text [] ++ behind) (partFrom t (cond t 0 start) (length text)) ≡ shows text
 unfolding shownOf
@@ -54,14 +54,14 @@ text-by src start k [] behind h false e = part-shown src false start [] (omega a
 text-by src start k (b ∷ text) behind h false e =
     source-shown src start k (b ∷ text) h (same-true (b ∷ text) (take k (drop start src)) (not-false _ e))
 
--- ---- the value, written behind the text
+-- ---- the value, written after the text
 -- the bytes of a token without the first
 drop-one : (w : ℕ) (l : List ℕ) → drop 1 (take (suc w) l) ≡ take w (drop 1 l)
 drop-one zero [] = refl
 drop-one (suc w) [] = refl
 drop-one w (b ∷ l) = refl
 
--- the first m of them stand in the source behind its first
+-- the first m of them stand in the source after its first
 quoted-shown : (src : List ℕ) (start k m : ℕ) (value : List ℕ) → start + k ≤ length src → m < k → value ≡ take m (drop 1 (take k (drop start src)))
     → shownIn src (partFrom false (start + 1) (length value)) ≡ shows value
 quoted-shown src start zero m value h l e = absurd (omega arith)

@@ -1,4 +1,4 @@
--- What a token that passes the checks leaves behind: a state that fits its table, and the buffers of the definition.
+-- What a token that passes the checks leaves after: a state that fits its table, and the buffers of the definition.
 use Prim.Native.Nat.{ℕ, _+_, _*_, _-_, _≤_, _<_, _^_}
 use mathlib.Core.Path.{_≡_, _∙_}
 use mathlib.Core.Bool.{true, false, cond, not, _&&_}

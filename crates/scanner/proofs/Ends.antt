@@ -1,4 +1,4 @@
--- The line starts of a token that has no line feed but perhaps its last byte, behind its blanks.
+-- The line starts of a token that has no line feed but perhaps its last byte, after its blanks.
 use Prim.Native.Nat.{ℕ, zero, suc, _+_, _-_, _≤_, _<_}
 use mathlib.Core.Path.{_≡_, refl, sym, ap, _∙_}
 use mathlib.Core.Bool.{Bool, true, false, cond, false≢true}
@@ -127,7 +127,7 @@ ends-by src x e = go (eqb (x .lfs) 0) (ltb 1 (x .lfs)) (eqb (getD src (x .end - 
         inr (omega arith, eqb-true _ _ r)
     go false false false p q r t = absurd (false≢true t)
 
--- behind the blanks
+-- after the blanks
 module _ (src : List ℕ) (s : State) (start : ℕ) (at : start ≡ s .place + skip (s .mark) (left src s start) .len) where
   pub blanks-starts : {lfs n : ℕ} → lfs ≡ skip (s .mark) (left src s start) .lfs → skipped src s start ≤ n → n ≤ length (left src s start) → s .offset + n < s .size
       → lfs ≡ length (startsFrom src s (skipped src s start))

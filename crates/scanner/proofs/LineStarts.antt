@@ -1,4 +1,4 @@
--- The line starts that blanks record: none without a line feed among them, and with one the place behind it.
+-- The line starts that blanks record: none without a line feed among them, and with one the place after it.
 use Prim.Native.Nat.{ℕ, suc, _+_, _≤_, _<_}
 use mathlib.Core.Path.{_≡_, refl, sym, ap, _∙_}
 use mathlib.Core.Bool.{Bool, true, false, cond}
@@ -62,7 +62,7 @@ skip-line-within mark (c ∷ r) = go (isBlank mark (c .code)) (ltb 0 (x .line)) 
     go true false true h = omega arith
     go true false false h = omega arith
 
--- one line feed among the blanks, before the size, starts the line behind it
+-- one line feed among the blanks, before the size, starts the line after it
 pub skip-start : (mark : Bool) (size o : ℕ) (r : List Char) → skip mark r .lfs ≡ 1 → o + skip mark r .len < size
     → startsRead size o (take (skip mark r .len) r) ≡ (o + skip mark r .line) ∷ []
 unfolding skip startsRead
@@ -86,7 +86,7 @@ skip-start mark size o (c ∷ r) e l =
         let f : suc o + x .line ≡ o + suc (x .line) = omega arith in
         rw (q, lt-ltb 0 (x .line) (h .1)) (ih (rw q at e) (omega arith) ∙ ap (λ n. n ∷ []) f)
 
--- ---- with a token behind the blanks that has no line feed
+-- ---- with a token after the blanks that has no line feed
 module _ (src : List ℕ) (s : State) (start : ℕ) (at : start ≡ s .place + skip (s .mark) (left src s start) .len)
     (x : Lexed) (e : said src start x ≡ placed src start (token src s start)) (z : x .lfs ≡ 0) where
   abbrev here : ℕ

@@ -1,4 +1,4 @@
--- What the pass of a scan reads: the blanks, the token behind them, and how the lexer's answer says it.
+-- What the pass of a scan reads: the blanks, the token after them, and how the lexer's answer says it.
 use Prim.Native.Nat.{ℕ, _+_, _-_, _≤_, _<_, _^_}
 use mathlib.Core.Path.{_≡_, refl, sym, ap, _∙_}
 use mathlib.Core.Bool.{Bool, true, false, cond, not}
@@ -93,7 +93,7 @@ sum-fits true false start end text value src area f g a b d k l = omega (arith, 
 sum-fits false true start end text value src area f g a b d k l = omega (arith, f refl)
 sum-fits false false start end text value src area f g a b d k l = omega (arith, f refl, g refl)
 
--- ---- a token that was lexed at a place behind the blanks
+-- ---- a token that was lexed at a place after the blanks
 module _ (src : List ℕ) (s : State) (start : ℕ) where
   -- the characters left
   abbrev pub left : List Char

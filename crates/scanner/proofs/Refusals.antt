@@ -27,7 +27,7 @@ module _ (x : Lexed) (area : ℕ) where
       go : (v : ℕ) → false ≡ leb (x .«text_bytes» + 2 * x .strays + v) area
       go v = sym (lt-leb (x .«text_bytes» + 2 * x .strays + v) area (omega arith))
 
-  -- with room r behind the text
+  -- with room r after the text
   module _ (r : ℕ) (e : cond (x .«text_differs») (textLen x) 0 + r ≡ area) where
     pub over-value : x .«value_differs» ≡ true → r < x .«value_bytes» + 2 * x .strays → false ≡ leb (toWrite x) area
     over-value t h = rw t (go (cond (x .«text_differs») (textLen x) 0) e)

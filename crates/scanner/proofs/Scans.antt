@@ -56,7 +56,7 @@ held s src table list e =
       errors = leb-true _ _ (a .1);
     }
 
--- xs behind the first n of a buffer
+-- xs after the first n of a buffer
 pub written-behind : {A : Type 0} (buffer : List A) (n : ℕ) (xs : List A) → n + length xs ≤ length buffer → written (take n buffer ++ xs) buffer ≡ sets buffer n xs
 written-behind buffer n xs h =
     rw (length-append (take n buffer) xs, length-take-le n buffer (omega arith)) (sym (sets-eq xs buffer n h))
@@ -96,7 +96,7 @@ scan-kept src s table list area h =
     unless-kept (refusalOf (fits s src table list) (s .size) u (length table) (roomOf list) (length (toArea p)) (length area))
     (gaveBy s p (tokenOf (s .base) (tokenStart r x) r p) u table list area) s table list area refl h
 
--- ---- a scan that fits, behind its pass
+-- ---- a scan that fits, after its pass
 module _ (src : List ℕ) (s : State) (table list area : List ℕ) (k : Held s src table list) (start : ℕ) (at : start ≡ s .place + skip (s .mark) (left src s start) .len) (x : Lexed) (e : said src start x ≡ placed src start (token src s start)) where
   abbrev n : ℕ
   n = skipped src s start

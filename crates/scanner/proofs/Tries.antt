@@ -1,4 +1,4 @@
--- A token that the lexer read behind the blanks and that is tried at once: what the numbers of the code hold, and that what it leaves is what a scan leaves.
+-- A token that the lexer read after the blanks and that is tried at once: what the numbers of the code hold, and that what it leaves is what a scan leaves.
 use Prim.Native.Nat.{ℕ, _+_, _-_, _≤_, _<_, _^_}
 use mathlib.Core.Path.{_≡_, refl, sym, ap, _∙_}
 use mathlib.Core.Bool.{Bool, true, false, not, _&&_, _||_, true≢false, false≢true}

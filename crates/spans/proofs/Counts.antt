@@ -1,4 +1,4 @@
--- Laws of what a body holds: a text behind does not change it, what its last character adds, and that it is no more than its bytes.
+-- Laws of what a body holds: a text after does not change it, what its last character adds, and that it is no more than its bytes.
 use Prim.Native.Nat.{ℕ, zero, suc, _+_, _-_, _≤_, _<_}
 use Prim.Native.Char.{code}
 use mathlib.Core.Path.{_≡_, sym, ap, _∙_}

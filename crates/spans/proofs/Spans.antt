@@ -1,4 +1,4 @@
--- Laws of spans: they are within the text, one that is not closed is all of it, and one that is closed does not depend on what comes behind.
+-- Laws of spans: they are within the text, one that is not closed is all of it, and one that is closed does not depend on what comes after.
 use Prim.Native.Nat.{ℕ, suc, pred, _≤_, _<_, suc-le-suc}
 use Prim.Native.Char.{code}
 use mathlib.Core.Path.{_≡_, refl, sym, ap, _∙_}
@@ -38,7 +38,7 @@ slash-spanned star [] = spanned-none
 slash-spanned star (c ∷ r) =
     spanned-cond (star && eqb (c .code) (code "/")) c r (toStarSlash (eqb (c .code) (code "*")) r) (slash-spanned (eqb (c .code) (code "*")) r)
 
--- ---- more text behind
+-- ---- more text after it
 local-cond : (t : Bool) (s s′ : Span) → (s .closed ≡ true → s′ ≡ s) → cond t last (longerSpan s) .closed ≡ true → cond t last (longerSpan s′) ≡ cond t last (longerSpan s)
 local-cond true s s′ f e = refl
 local-cond false s s′ f e = ap longerSpan (f e)

@@ -1,4 +1,5 @@
-// The listing of a text: its tokens, its errors and the count of its lines, or the refusal at which it stops.
+// The listing of a text: its tokens, its errors and the count of its lines, or the refusal at which
+// it stops.
 use crate::output::Buffer;
 use crate::people;
 use crate::show;
@@ -14,7 +15,8 @@ use scanner::Token;
 // The longest text in bytes.
 const MOST_BYTES: usize = 65_536;
 
-// The most scans of so many characters: each reads one or more, or inserts a semicolon behind one that did, or is the EOF's.
+// The most scans of so many characters. Each reads one or more, or inserts a semicolon after one
+// that did, or is that of EOF.
 const MOST_SCANS: usize = 131_073;
 
 // How far a listing has come.

@@ -1,4 +1,5 @@
-// Output by way of a buffer, whose first `waiting` bytes are still to be written. What adds to it answers how many wait then.
+// Output by way of a buffer, whose first `waiting` bytes are still to be written. What adds to it
+// answers how many wait then.
 use libc::STDOUT_FILENO;
 
 const ROOM: usize = 4096;
@@ -47,8 +48,9 @@ fn visible_byte(out: &mut Buffer, waiting: usize, b: u8) -> usize {
     byte(out, waiting, b)
 }
 
-// Adds bytes so that each can be seen and none moves the terminal's cursor: a line feed is `\n`, a CR `\r`, another control
-// character but the tab its number. A line feed at the very end is left out.
+// Adds bytes so that each can be seen and none moves the terminal's cursor: a line feed is `\n`, a
+// CR `\r`, another control character but the tab its number. A line feed at the very end is left
+// out.
 pub(crate) fn visible(out: &mut Buffer, waiting: usize, s: &[u8]) -> usize {
     let mut end = waiting;
     for k in 0..s.len() {

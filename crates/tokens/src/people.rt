@@ -7,7 +7,8 @@ use errors::Error;
 use position::Position;
 use scanner::Token;
 
-// How many digits the column of places has room for, and how wide the column of kinds is. Two spaces follow each.
+// How many digits the column of places has room for, and how wide the column of kinds is. Two
+// spaces follow each.
 const PLACE_DIGITS: usize = 5;
 
 const KIND_WIDTH: usize = 7;
@@ -59,7 +60,8 @@ fn name_and_text(out: &mut Buffer, waiting: usize, kind: u8, text: &[u8]) -> usi
     output::visible(out, end, text)
 }
 
-// The name of a token's kind, then its text if it has one, or that a semicolon is not in the source.
+// The name of a token's kind, then its text if it has one, or that a semicolon is not in the
+// source.
 fn named(out: &mut Buffer, waiting: usize, token: Token, text: &[u8]) -> usize {
     if token.inserted {
         return name_and_text(out, waiting, token.kind, b"(inserted)");

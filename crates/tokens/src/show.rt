@@ -5,7 +5,7 @@ use errors::Error;
 use position::Position;
 use scanner::Token;
 
-// A place, and a space behind each of its numbers.
+// A place, with a space after each of its numbers.
 fn place(out: &mut Buffer, waiting: usize, at: Position) -> usize {
     let mut end = output::decimal(out, waiting, at.offset);
     end = output::byte(out, end, b' ');
@@ -25,7 +25,7 @@ fn text_of(out: &mut Buffer, waiting: usize, token: Token, text: &[u8]) -> usize
     output::hex_bytes(out, waiting, text)
 }
 
-// What stands behind a token's text: the value of a STRING, the code point of a CHAR.
+// What follows a token's text: the value of a STRING, the code point of a CHAR.
 fn value_of(out: &mut Buffer, waiting: usize, token: Token, value: &[u8]) -> usize {
     if token.kind == kinds::STRING {
         let end = output::byte(out, waiting, b' ');

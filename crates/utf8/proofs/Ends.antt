@@ -1,4 +1,4 @@
--- Laws of characters that end in a line feed, with more behind them.
+-- Laws of characters that end in a line feed, with more after them.
 use Prim.Native.Nat.{ℕ, zero, suc, _<_}
 use mathlib.Core.Path.{_≡_, refl}
 use mathlib.Core.Bool.{true}
@@ -41,7 +41,7 @@ ends-drop zero r l h = h
 ends-drop (suc n) [] l h = absurd h
 ends-drop (suc n) (c ∷ r) l h = ends-drop n r (omega arith) (ends-more c r h (omega arith))
 
--- the next character, with more behind
+-- the next character, with more after it
 pub peek-append : (n : ℕ) (r t : List Char) → n < length r → peek (drop n (r ++ t)) ≡ peek (drop n r)
 peek-append n [] t l = absurd (not-suc-le-zero l)
 peek-append zero (c ∷ r) t l = refl

@@ -1,4 +1,4 @@
--- Laws of the longest run of characters that pass a test: what it holds, its bound, its place, and more text behind.
+-- Laws of the longest run of characters that pass a test: what it holds, its bound, its place, and more text after it.
 use Prim.Native.Nat.{ℕ, zero, suc, _+_, _≤_, _<_}
 use mathlib.Core.Path.{_≡_, refl, sym, ap, _∙_}
 use mathlib.Core.Bool.{Bool, true, false, cond, true≢false}
@@ -43,7 +43,7 @@ module _ {f : ℕ → Bool} {n : List Char → ℕ} (run : Run f n) where
     pub run-no-feed : (r : List Char) (i : ℕ) → i < n r → getD r i ended .code ≡ 10 → ⊥
     run-no-feed r i h e = true≢false (sym (run-passes r i h) ∙ ap f e ∙ feed)
 
-    -- in a text that ends in one the run is the same with more behind, and stops before the line feed
+    -- in a text that ends in one the run is the same with more after it, and stops before the line feed
     pub run-local : (r t : List Char) → Ends r → (n (r ++ t) ≡ n r) × (n r < length r)
     run-local [] t h = absurd h
     run-local (c ∷ r) t h = rw (run .next c r, run .next c (r ++ t)) (go (f (c .code)) refl (run-local r t))

@@ -43,7 +43,7 @@ module _ (area : List ℕ) (n : ℕ) {whole left : List ℕ} (to-do : whole ≡ 
   pub finished : left ≡ [] → area ≡ whole
   finished e = sym (left-as e)
 
--- the same, where a rest is to be written behind, whatever it is
+-- the same, where a rest is to be written after, whatever it is
 pub left-as-with-rest : (area : List ℕ) (n : ℕ) {whole : List ℕ → List ℕ} {left bytes : List ℕ} → left ≡ bytes → ((rest : List ℕ) → whole rest ≡ sets area n (left ++ rest))
     → (rest : List ℕ) → whole rest ≡ sets area n (bytes ++ rest)
 left-as-with-rest area n e to-do rest = to-do rest ∙ ap (λ z. sets area n (z ++ rest)) e

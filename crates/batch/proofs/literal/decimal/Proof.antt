@@ -1,4 +1,4 @@
--- `literal::decimal` meets its contract: what was read is digits alone, and nothing behind them belongs to a number.
+-- `literal::decimal` meets its contract: what was read is digits alone, and nothing after them belongs to a number.
 use Prim.Native.Nat.{_+_, _<_}
 use mathlib.Core.Bool.{false, true≢false}
 use mathlib.Core.Logic.{⊎-elim}
@@ -83,7 +83,7 @@ some d =
           absurd (true≢false (sym (s .pre .3) ∙ rw e at (is .3 (omega (arith, e, s .pre .1)))))
     ]
 
--- the byte behind belongs to no number
+-- the byte after belongs to no number
 behind : (c : tie.Else3)
     → let d = c .before .before .before .before .before in goesOn (getD (d .before .before .before .args .src .now) (d .digits-end .result) 0) ≡ false
 behind c =

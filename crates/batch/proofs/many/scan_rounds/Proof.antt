@@ -71,7 +71,7 @@ loop-again c =
     let t = tested (scanned c .before) in
     (search needs, search needs, search needs, search needs, comes-on _ _ (t .before .loop .inv .4) (t .loop-test .taken) (scanned c .scan-round .ensures .0))
 
--- ---- behind the last round
+-- ---- after the last round
 refused-requires : tie.Need-refused-requires Inv-loop μ-loop
 refused-requires c κs = tt
 

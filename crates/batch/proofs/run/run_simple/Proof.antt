@@ -51,7 +51,7 @@ next-simple-requires c κs =
     let p = start e .pre in
     (l .inv .4 .fit, l .inv .2, e .safe-end .ensures, p .1, p .2, l .inv .3 (t .loop-test .taken), omega (arith, l .inv .1, p .4))
 
--- behind a step
+-- after a step
 abbrev stepped : tie.After-slice-known4 Inv-loop μ-loop → tie.After-next-simple Inv-loop μ-loop
 stepped c = c .before .before .before .before
 

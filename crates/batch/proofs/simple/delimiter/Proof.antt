@@ -1,4 +1,4 @@
--- `simple::delimiter` meets its contract: a byte that tells a delimiter, for a point with a letter behind it.
+-- `simple::delimiter` meets its contract: a byte that tells a delimiter, for a point with a letter after it.
 use Prim.Native.Nat.{_+_, _<_}
 use mathlib.Core.Bool.{false, true}
 use mathlib.Core.Logic.{⊎-elim}
@@ -54,7 +54,7 @@ sets-mark-requires c κs = search needs
 same-length : tie.Need-same-length
 same-length c = search needs
 
--- behind a point stands a letter
+-- after a point comes a letter
 letter : (c : tie.Joined1)
     → let a = c .before .before .before .args in
     firstKind (getD (a .src .now) (a .at) 0) ≡ PERIOD → isLetter (getD (a .src .now) (a .at + 1) 0) ≡ true

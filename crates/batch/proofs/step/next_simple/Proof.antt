@@ -36,7 +36,7 @@ returns c =
     let a = s .args in
     rw (c .ended .ensures) (leads-here (a .room) (a .src .now) (a .list .now) (reached (a .first) (a .at)) (a .table .now) (a .tokens .now) (a .at .count) (s .pre .0) (omega (arith, s .pre .5)), s .pre .1, λ e. absurd (false≢true e))
 
--- ---- behind blanks that were found
+-- ---- after blanks that were found
 module _ (c : tie.Else1) where
   abbrev begun : tie.Start
   begun = start (c .before .before)
@@ -98,7 +98,7 @@ same-length-2 c = search needs
 same-length-3 : tie.Need-same-length-3
 same-length-3 c = search needs
 
--- ---- behind the try of a token
+-- ---- after the try of a token
 abbrev tried : tie.After-struct-known5 → tie.After-give-simple
 tried c = c .before .before .before
 

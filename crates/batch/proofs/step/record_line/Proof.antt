@@ -22,7 +22,7 @@ sub-start c = search needs
 add-start : tie.Need-add-start
 add-start c = search needs
 
--- behind a line feed there is room for the line start
+-- after a line feed there is room for the line start
 fits-there : (c : tie.Else1) → let a = c .before .before .args in a .lines < length (a .table .now)
 fits-there c = c .before .before .pre .3 (not-false _ (c .if1 .left))
 

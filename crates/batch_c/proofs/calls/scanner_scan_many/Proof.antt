@@ -45,7 +45,7 @@ state-in-requires c κs = tt
 scan-many-requires : tie.Need-scan-many-requires
 scan-many-requires c κs = tt
 
--- ---- behind the scans
+-- ---- after the scans
 abbrev passed : tie.After-scan-many → tie.Else1
 passed c = c .before .before .before .before .before .before .before
 

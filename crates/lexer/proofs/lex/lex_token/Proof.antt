@@ -76,7 +76,7 @@ start c = c .before .before .before .before .before .before
 there : (c : tie.Else3) → start c .args .at < length (start c .args .src .now)
 there c = c .before .before .before .before .if1 .left
 
--- the byte behind it
+-- the byte after it
 second : (c : tie.Else3) → getD (start c .args .src .now) (start c .args .at + 1) 0 ≡ c .before .before .byte .result
 second c = sym (c .before .before .byte .ensures)
 

@@ -1,4 +1,4 @@
--- `answer::plain_token` meets its contract: the value starts behind the quote that opens it.
+-- `answer::plain_token` meets its contract: the value starts after the quote that opens it.
 use Prim.Native.Nat.{ℕ, _+_, _<_, _^_}
 use mathlib.Core.Path.{_≡_}
 use mathlib.Core.Bool.{Bool, true, false, cond}

@@ -1,4 +1,4 @@
--- `quick::record_ends` meets its contract: what the blanks record, and what the token does behind it.
+-- `quick::record_ends` meets its contract: what the blanks record, and what the token does after it.
 use Prim.Native.Nat.{ℕ, _-_}
 use mathlib.Core.Path.{_≡_, ap, _∙_}
 use mathlib.Core.List.{List}

@@ -11,7 +11,7 @@ use borrow.Author.Needs.{needs}
 use Rattle.scanner.proofs.scanning.chars_read.Statement.{statement}
 use Rattle.scanner.proofs.scanning.chars_read.Tie as tie
 
--- the token was lexed behind the blanks
+-- the token was lexed after the blanks
 start-at : (s : tie.Start) → let a = s .args in a .blanks .end ≡ a .state .place + skip (a .state .mark) (chars (drop (a .state .place) (a .src .now))) .len
 start-at s = ap (λ (b : Skipped). b .end) (s .pre .1 .skipped)
 

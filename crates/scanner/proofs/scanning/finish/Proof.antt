@@ -26,7 +26,7 @@ short s = omega (arith, s .good .0 .1)
 small : (s : tie.Start) → length (s .args .area .now) < 2 ^ 63
 small s = omega (arith, s .good .1 .1 .1 .1 .1 .1 .1 .0 .1)
 
--- the token was lexed behind the blanks
+-- the token was lexed after the blanks
 start-at : (s : tie.Start) → let a = s .args in a .blanks .end ≡ a .state .place + skip (a .state .mark) (chars (drop (a .state .place) (a .src .now))) .len
 start-at s = ap (λ (b : Skipped). b .end) (s .pre .reads .skipped)
 

@@ -28,7 +28,7 @@ mul-room c = search needs
 sub-room : tie.Need-sub-room
 sub-room c = search needs
 
--- the room behind the text
+-- the room after the text
 room-left : (c : tie.Joined1) → let a = c .before .args in cond (a .x .«text_differs») (textLen (a .x)) 0 + c .if1 .room ≡ a .area
 room-left c =
     ⊎-elim (λ w. rw (w .0 .taken, w .7) (half-left _ _ _ (w .2 .left) (w .5 .left))) (λ w. rw (w .0 .left, w .1, zero-add)) (c .if1 .came)

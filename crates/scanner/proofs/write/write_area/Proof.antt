@@ -1,4 +1,4 @@
--- `write::write_area` meets its contract: the text at the area's start, if it differs, and the value behind it.
+-- `write::write_area` meets its contract: the text at the area's start, if it differs, and the value after it.
 use Prim.Native.Nat.{_+_, _*_, _≤_}
 use mathlib.Core.Path.{_≡_, sym, ap, _∙_}
 use mathlib.Core.Logic.{⊎-elim}

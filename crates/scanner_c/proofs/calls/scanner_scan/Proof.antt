@@ -44,7 +44,7 @@ state-in-requires c κs = search needs
 scan-requires : tie.Need-scan-requires
 scan-requires c κs = search needs
 
--- ---- behind the scan
+-- ---- after the scan
 abbrev ran : tie.After-struct-known → tie.After-scan
 ran c = c .before .before .before .before .before .before .before
 

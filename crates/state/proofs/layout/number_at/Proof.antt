@@ -1,4 +1,4 @@
--- `layout::number_at` meets its contract: behind the last number the default stands.
+-- `layout::number_at` meets its contract: after the last number the default stands.
 use mathlib.Core.Path.{sym}
 use lib.ListN.{List·getD-eq-default}
 use borrow.Author.Needs.{needs}
