@@ -3,16 +3,20 @@
  *
  * This file has the numbers of the scanner, their names, and its plain functions, which allocate
  * nothing. scanner_struct.h has a `struct scanner` over them, which owns its buffers. README.md,
- * beside this file, says which of the two to take, and how to build.
+ * beside this file, says which of the two to use, and how to build.
  *
  * Open a source once with scanner_open. Then call scanner_scan for one token after the other, or
  * scanner_scan_many for many at a time, up to SCANNER_KIND_EOF. The library keeps nothing between
  * calls: state, line table, error list and text area are the caller's.
  *
  * Each function answers SCANNER_OK, which is 0, or the number of a refusal. A refused call changes
- * nothing that it was lent, but for the place that SCANNER_NOT_UTF8 carries. After
- * SCANNER_TABLE_FULL, SCANNER_LIST_FULL or SCANNER_AREA_FULL, copy the line table, the error list
- * or the text area to a larger one, and call again.
+ * nothing that it was lent, with one exception: with SCANNER_NOT_UTF8, scanner_open writes the
+ * place of a bad byte to `answer`. After SCANNER_TABLE_FULL, SCANNER_LIST_FULL or
+ * SCANNER_AREA_FULL, copy the line table, the error list or the text area to a larger one, and call
+ * again.
+ *
+ * An offset counts characters from 0. A position is the base plus an offset. A place is a byte
+ * index.
  *
  * First of all, each function checks that its slices of numbers are long enough: a state of
  * SCANNER_STATE_LEN numbers, a token of SCANNER_TOKEN_LEN, room for one token in `tokens`, and in
@@ -46,7 +50,7 @@ extern "C" {
 #define SCANNER_MAX_SOURCE 1048576
 #define SCANNER_MAX_POSITION 4294967295u
 
-/* How many numbers a state, a token, an error, a position and a part are. */
+/* How many numbers a state, a token, an error, an answered position and a part have. */
 #define SCANNER_STATE_LEN 7
 #define SCANNER_TOKEN_LEN 10
 #define SCANNER_ERROR_LEN 4
@@ -57,11 +61,12 @@ extern "C" {
  * Lengths of line table, error list and text area that always suffice for a source of so many
  * bytes: with these, a source that was opened is scanned to EOF and no buffer is ever full.
  *
- * The table has the first line start, and at most one after each character. A scan records at
- * most one error, and one that does has read a character. A text is at most one byte longer than
- * the bytes that it was read from (`017` is shown as `0o17`), and a value is shorter than them.
+ * The table has the first line start, and at most one more for each character. A scan records at
+ * most one error, and a scan that records one has read a character. A text is at most one byte
+ * longer than the bytes that it was read from (`017` is shown as `0o17`). A value is shorter than
+ * these bytes.
  *
- * Most sources need much less, so it pays to start with less and to grow when one is full.
+ * Most sources need much less, so it pays to start small and to enlarge a buffer when it is full.
  */
 #define SCANNER_TABLE_ENOUGH(bytes) ((bytes) + 1)
 #define SCANNER_LIST_ENOUGH(bytes) (SCANNER_ERROR_LEN * ((bytes) + 1))
@@ -71,14 +76,18 @@ extern "C" {
 enum scanner_state_index {
     SCANNER_STATE_BASE,     /* the position of offset 0 */
     SCANNER_STATE_SIZE,     /* positions are base to base + size */
-    SCANNER_STATE_PLACE,    /* the byte at which the next scan starts */
+    SCANNER_STATE_PLACE,    /* the place at which the next scan starts */
     SCANNER_STATE_OFFSET,   /* the characters before it */
-    SCANNER_STATE_MARK,     /* not 0: a semicolon may be inserted next; a scan gives 0, 1 */
+    SCANNER_STATE_MARK,     /* not 0: a semicolon may be inserted; a scan gives 0 or 1 */
     SCANNER_STATE_LINES,    /* line starts in the table */
     SCANNER_STATE_ERRORS    /* errors in the list */
 };
 
-/* The numbers of a token. A part is in the area unless its flag is 0; a scan gives 0 or 1. */
+/*
+ * The numbers of a token. Text and value are parts of three numbers each: a flag, and the places of
+ * its start and its end. The flag is 0 for a part of the source and any other number for one of the
+ * area; a scan gives 0 or 1.
+ */
 enum scanner_token_index {
     SCANNER_TOKEN_KIND,
     SCANNER_TOKEN_INSERTED, /* 1: a semicolon that is not written in the source */
@@ -92,7 +101,7 @@ enum scanner_token_index {
     SCANNER_TOKEN_VALUE_END
 };
 
-/* The numbers of an error; the first three are those of a position, too. */
+/* The numbers of an error. The first three are also those that scanner_position answers. */
 enum scanner_place_index {
     SCANNER_OFFSET,         /* in characters, from 0 */
     SCANNER_LINE,           /* from 1 */
@@ -104,10 +113,15 @@ enum scanner_place_index {
  * The refusals. Those up to SCANNER_NO_LINE come from the input, the others from the state and the
  * buffers.
  *
- * SCANNER_DOES_NOT_FIT says that what a call is lent does not go together: the place is beyond the
- * source, the offset above the place or the size, base + size too large, the line count 0 or above
- * the table, the first start not 0, the last start or that of the line asked for above the offset,
- * the error count above the list, a part of a token outside its buffer; or a slice is too short.
+ * SCANNER_DOES_NOT_FIT says that what a call is lent does not go together:
+ *
+ * - the place is beyond the source, or the offset is above the place or the size,
+ * - base + size is too large,
+ * - the line count is 0 or above what the table holds, or the first line start is not 0,
+ * - the last line start, or that of the line asked for, is above the offset,
+ * - the error count is above what the list holds,
+ * - a part of a token is outside its buffer,
+ * - a slice is too short.
  *
  * The library never answers SCANNER_NO_MEMORY; the functions of scanner_struct.h do.
  */
@@ -115,13 +129,13 @@ enum scanner_refusal {
     SCANNER_OK,
     SCANNER_NOT_UTF8,       /* opening: not UTF-8 */
     SCANNER_TOO_LONG,       /* opening: more than SCANNER_MAX_SOURCE bytes */
-    SCANNER_SIZE,           /* opening: size below the characters, or base + size too large;
-                               a scan: past the size */
+    SCANNER_SIZE,           /* opening: size below the number of characters, or
+                               base + size too large; a scan: past the size */
     SCANNER_POSITION,       /* a position outside base to base + size */
     SCANNER_NO_LINE,        /* line 0, or above the line count */
     SCANNER_DOES_NOT_FIT,   /* state, token and buffers do not go together, or a short slice */
     SCANNER_TABLE_FULL,     /* more line starts than the line table holds */
-    SCANNER_LIST_FULL,      /* an error and a full error list */
+    SCANNER_LIST_FULL,      /* an error, and the error list is full */
     SCANNER_AREA_FULL,      /* more bytes to write than the text area holds */
     SCANNER_NO_MEMORY = 255 /* struct scanner: a buffer could not grow */
 };
@@ -331,10 +345,10 @@ static inline const char *scanner_refusal_text(size_t number)
 }
 
 /*
- * Opens a source of Go text: UTF-8, at most SCANNER_MAX_SOURCE bytes. The size is at least its
- * number of characters. The first state goes to `state`, the first line start to `table`, the
- * number of characters to `answer` (1 number). With SCANNER_NOT_UTF8, the place of a byte that
- * belongs to no character goes there.
+ * Opens a source: UTF-8, of at most SCANNER_MAX_SOURCE bytes. The size must be at least its number
+ * of characters. The first state goes to `state`, the first line start to `table`, and the number
+ * of characters to `answer` (1 number). If the call is refused with SCANNER_NOT_UTF8, `answer` is
+ * the place of a byte that belongs to no character.
  */
 uint8_t scanner_open(const uint8_t *src, size_t src_len, size_t base, size_t size,
                      size_t *table, size_t table_len, size_t *state, size_t state_len,
@@ -351,13 +365,13 @@ uint8_t scanner_scan(const uint8_t *src, size_t src_len, size_t *state, size_t s
                      uint8_t *area, size_t area_len, size_t *token, size_t token_len);
 
 /*
- * Scans token after token, as many as `tokens` has room for at SCANNER_TOKEN_LEN numbers each, and
- * so saves calls. The number of tokens given goes to `answer` (1 number). State and buffers are
- * those that so many calls of scanner_scan leave.
+ * Scans many tokens in one call: at most as many as `tokens` has room for, at SCANNER_TOKEN_LEN
+ * numbers each. The number of tokens given goes to `answer` (1 number). State and buffers are then
+ * what so many calls of scanner_scan leave.
  *
  * It stops after EOF, after a token whose text or value is in the area, since the next scan would
  * write over it, and before a scan that would be refused. That scan is the first of the next call,
- * which is then refused by its number. So a call gives one token or more, or it is refused, gives
+ * which is then refused with its number. So a call gives one token or more, or it is refused, gives
  * none and changes nothing. batches.c, beside this file, is an example.
  */
 uint8_t scanner_scan_many(const uint8_t *src, size_t src_len, size_t *state, size_t state_len,
@@ -396,8 +410,8 @@ uint8_t scanner_text(const uint8_t *src, size_t src_len, const uint8_t *area, si
                      const size_t *token, size_t token_len, size_t *answer, size_t answer_len);
 
 /*
- * The value of a STRING, likewise; every other token has an empty one. The call looks at the part
- * alone, and not at the kind.
+ * The value of a STRING, in the same way. Every other token has an empty value. The call looks only
+ * at the part, and not at the kind.
  */
 uint8_t scanner_value(const uint8_t *src, size_t src_len, const uint8_t *area, size_t area_len,
                       const size_t *token, size_t token_len, size_t *answer, size_t answer_len);
@@ -410,12 +424,12 @@ struct scanner_bytes {
 
 /*
  * The bytes of a part that scanner_text or scanner_value answered. It checks nothing: the part
- * must be inside its buffer. The parts of a token that a scan gave are, in that scan's source and
- * area. So for such a token
+ * must be inside its buffer. This holds for the parts of a token that a scan gave, with the source
+ * and the area of that scan. So for such a token
  *
  *     scanner_part(token + SCANNER_TOKEN_TEXT_IN_AREA, src, area)
  *
- * is its text without a call.
+ * is its text, without a call of the library.
  */
 static inline struct scanner_bytes scanner_part(const size_t *part, const uint8_t *src,
                                                 const uint8_t *area)

@@ -10,9 +10,9 @@
  *     }
  *     scanner_free(&s);
  *
- * It is written in terms of the plain functions of scanner.h. It scans up to SCANNER_BATCH tokens
- * in one call of the library, and enlarges line table, error list and text area when they are
- * full. What it tells is always that of the tokens given so far.
+ * It is made of the plain functions of scanner.h. It scans up to SCANNER_BATCH tokens in one call
+ * of the library, and enlarges line table, error list and text area when they are full. The errors
+ * and lines that it tells are always those of the tokens given so far.
  *
  * The source is not copied: it must stay as it is until the last use of the scanner. A struct
  * scanner keeps no pointer into itself, but it owns memory: pass it by pointer, and free it once.
@@ -36,7 +36,7 @@ extern "C" {
 struct scanner_token {
     size_t kind;                /* one of enum scanner_kind */
     int inserted;               /* 1: a semicolon that is not written in the source */
-    size_t position;            /* base + the characters before it */
+    size_t position;            /* base + offset of its first character */
     size_t line, column;        /* from 1; columns count characters */
     uint32_t code;              /* the code point of a CHAR, else 0 */
     struct scanner_bytes text;  /* empty for operators, keywords and EOF */
@@ -52,20 +52,20 @@ struct scanner_error_record {
 };
 
 /*
- * A scanner. Its members are for reading only. `state`, `table` and `list` can be lent to the
- * plain functions scanner_position and scanner_line_start; call scanner_settle before.
+ * A scanner. Its members are for reading only. `state` and `table` can be lent to the plain
+ * functions scanner_position and scanner_line_start; call scanner_settle first.
  */
 struct scanner {
     const uint8_t *src;
     size_t len;
     size_t characters;          /* of the source */
-    size_t bad_place;           /* after SCANNER_NOT_UTF8: a byte that belongs to no character */
+    size_t bad_place;           /* after SCANNER_NOT_UTF8: the place of a bad byte */
     size_t state[SCANNER_STATE_LEN];
     size_t *table, *list;
     uint8_t *area;
     size_t table_len, list_len, area_len;
     uint8_t refusal;            /* why there are no buffers */
-    size_t line, end;           /* of the last token given: its line, and the byte after it */
+    size_t line, end;           /* of the last token given: its line, and the place after it */
     size_t room;                /* how many tokens the next batch has room for */
     size_t given, count;        /* how many tokens of the batch were given, and how many it has */
     size_t before[SCANNER_STATE_LEN]; /* the state before the batch */
@@ -73,8 +73,8 @@ struct scanner {
 };
 
 /*
- * Gives the memory back. It may be called after an init that was refused, and more than once. A
- * freed scanner gives no token but SCANNER_DOES_NOT_FIT, and has no errors and no lines.
+ * Gives the memory back. It may be called after an init that was refused, and more than once. After
+ * it, scanner_next is refused with SCANNER_DOES_NOT_FIT, and there are no errors and no lines.
  */
 static inline void scanner_free(struct scanner *s)
 {
@@ -97,7 +97,7 @@ static inline uint8_t scanner_inner_refuse(struct scanner *s, uint8_t refusal)
     return refusal;
 }
 
-/* Allocates buffers that do for most sources. */
+/* Allocates buffers that are large enough for most sources. */
 static inline uint8_t scanner_inner_allocate(struct scanner *s, const uint8_t *src, size_t len)
 {
     memset(s, 0, sizeof *s);
@@ -143,8 +143,8 @@ static inline uint8_t scanner_init_with_size(struct scanner *s, const uint8_t *s
 }
 
 /*
- * Opens a source at base 0, in a size of its number of characters. With this size, an LF at the
- * very end of the source starts no line.
+ * Opens a source at base 0, with its number of characters as size. With this size, an LF at the
+ * very end of the source starts no line. Answers as scanner_init_with_size does.
  */
 static inline uint8_t scanner_init(struct scanner *s, const uint8_t *src, size_t len)
 {
@@ -213,7 +213,7 @@ static inline uint8_t scanner_inner_batch(struct scanner *s)
     return SCANNER_OK;
 }
 
-/* Line and column of the next token: on from the line of the one before, with no search. */
+/* Line and column of the next token. It goes on from the line of the token before. */
 static inline void scanner_inner_locate(struct scanner *s, struct scanner_token *token)
 {
     size_t offset = token->position - s->state[SCANNER_STATE_BASE];
@@ -229,10 +229,10 @@ static inline int scanner_inner_is_blank(uint8_t byte)
 }
 
 /*
- * The bytes that the next token was read from. A text that is shown from the source is these bytes
- * itself. Operators and keywords have an empty one where they start. A token with its text in the
- * area is the last of its batch: it ends where the scans stopped, and starts after the blanks that
- * follow the token before.
+ * The bytes that the next token was read from. A text that is shown from the source is exactly
+ * these bytes. Operators and keywords have an empty text at the place where they start. A token
+ * with its text in the area is the last of its batch: it ends where the scans stopped, and starts
+ * after the blanks that follow the token before.
  */
 static inline void scanner_inner_span(struct scanner *s, const size_t *numbers,
                                       struct scanner_token *token)
@@ -252,7 +252,7 @@ static inline void scanner_inner_span(struct scanner *s, const size_t *numbers,
 
 /*
  * Gives the next token. After the last one comes EOF, again and again. Answers 0 or a refusal:
- * SCANNER_NO_MEMORY, after which it may be called again, or the one that the init answered.
+ * SCANNER_NO_MEMORY, after which it may be called again, or the refusal of the init.
  *
  * The bytes of text and value may be inside the scanner's own text area. They stay there until the
  * next call of scanner_next or scanner_free.
@@ -278,9 +278,9 @@ static inline uint8_t scanner_next(struct scanner *s, struct scanner_token *toke
 
 /*
  * Drops what was scanned ahead: state, line table and error list are then those after the last
- * token given. It scans the tokens of the batch that were given once more, from the state before
- * it. They come out the same, and none of them has a text or a value in the area, since such a
- * token is the last of its batch. To ask often costs little: the batches are then short.
+ * token given. It goes back to the state before the batch and scans the tokens that were given once
+ * more. They come out the same. None of them has a text or a value in the area, since such a token
+ * is the last of its batch. Frequent calls cost little, because the batches are short after a call.
  */
 static inline void scanner_settle(struct scanner *s)
 {
@@ -300,7 +300,7 @@ static inline size_t scanner_errors(struct scanner *s)
     return s->state[SCANNER_STATE_ERRORS];
 }
 
-/* An error of them, by its index from 0, in the order of the source; all zeros past the last. */
+/* One of these errors, by its index from 0, in the order of the source; all zeros past the last. */
 static inline struct scanner_error_record scanner_error_at(struct scanner *s, size_t index)
 {
     size_t numbers[SCANNER_ERROR_LEN] = {0, 0, 0, 0};
