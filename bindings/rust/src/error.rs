@@ -84,6 +84,8 @@ impl fmt::Display for ErrorKind {
     }
 }
 
+impl std::error::Error for ErrorKind {}
+
 /// An error of a source: what is wrong, and where. It is shown as `line:column: message`.
 ///
 /// The scanner notes an error and goes on after it. [`Scanner::errors`](crate::Scanner::errors) lists them.
@@ -124,6 +126,14 @@ pub struct Errors<'a> {
 impl<'a> Errors<'a> {
     pub(crate) fn new(state: &'a ffi::State, list: &'a [usize]) -> Errors<'a> {
         Errors { state, list, left: 0..state[ffi::ERRORS] }
+    }
+
+    /// Those of them that were met up to an offset.
+    pub(crate) fn up_to(mut self, offset: usize) -> Errors<'a> {
+        while self.left.end > 0 && self.get(self.left.end - 1).position.offset > offset {
+            self.left.end -= 1;
+        }
+        self
     }
 
     /// The error with an index that is in the list.

@@ -14,6 +14,7 @@ pub type Token = [usize; 10];
 pub const BASE: usize = 0;
 pub const SIZE: usize = 1;
 pub const PLACE: usize = 2;
+pub const OFFSET: usize = 3;
 pub const LINES: usize = 5;
 pub const ERRORS: usize = 6;
 

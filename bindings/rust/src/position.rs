@@ -13,6 +13,7 @@ pub type Pos = usize;
 /// # use cifgwezam::Position;
 /// let at = Position { offset: 9, line: 2, column: 4 };
 /// assert_eq!(at.to_string(), "2:4");
+/// assert_eq!(format!("{at:<6}|"), "2:4   |");
 /// ```
 #[derive(Clone, Copy, Debug, PartialEq, Eq, Hash, PartialOrd, Ord)]
 pub struct Position {
@@ -26,6 +27,9 @@ pub struct Position {
 
 impl fmt::Display for Position {
     fn fmt(&self, f: &mut fmt::Formatter<'_>) -> fmt::Result {
-        write!(f, "{}:{}", self.line, self.column)
+        match f.width() {
+            Some(_) => f.pad(&format!("{}:{}", self.line, self.column)),
+            None => write!(f, "{}:{}", self.line, self.column),
+        }
     }
 }

@@ -15,7 +15,7 @@ use std::ops::Range;
 ///
 /// - [`tokens`](Scanner::tokens): an iterator up to EOF. Take this one, unless there is a reason for another.
 /// - [`scan`](Scanner::scan): one token at a call, EOF too. It suits a parser that asks for the next token.
-/// - [`batch`](Scanner::batch): up to 256 tokens at a call, lent. It is the fastest.
+/// - [`batch`](Scanner::batch): up to 256 tokens at a call, lent. It is the fastest on most sources.
 ///
 /// The scanner owns the line table, the error list and the text area, and enlarges them as needed. So a source that was
 /// opened is scanned to its end, and scanning returns no `Result`.
@@ -30,6 +30,10 @@ pub struct Scanner<'src> {
     chars: usize,
     state: ffi::State,
     buffers: Buffers,
+    /// How many tokens of the buffer were given, and how many it has. State, line table and error list are those after the
+    /// last of them.
+    given: usize,
+    count: usize,
     /// The line of the last token that was given with its line. Later tokens are on this line or on one after it.
     line: usize,
     /// The bytes that the last token in the area was read from.
@@ -50,6 +54,10 @@ impl<'src> Scanner<'src> {
     /// Opens a source at base 0. The size is its number of characters.
     ///
     /// The source may be text (`&str`, `&String`) or bytes (`&[u8]`, `&Vec<u8>`, `b".."`).
+    ///
+    /// # Errors
+    ///
+    /// [`Refusal::TooLong`] or [`Refusal::NotUtf8`].
     ///
     /// ```
     /// # use cifgwezam::{Refusal, Scanner};
@@ -72,6 +80,10 @@ impl<'src> Scanner<'src> {
     ///
     /// An LF at the very end of a source starts no line where the size is the number of characters. In a larger size it
     /// does.
+    ///
+    /// # Errors
+    ///
+    /// [`Refusal::TooLong`], [`Refusal::NotUtf8`] or [`Refusal::Size`].
     ///
     /// ```
     /// # use cifgwezam::Scanner;
@@ -104,14 +116,16 @@ impl<'src> Scanner<'src> {
     /// ```
     #[inline]
     pub fn scan(&mut self) -> Token<'src> {
+        if self.is_ahead() {
+            return self.give();
+        }
         self.scan_one()
     }
 
     /// The tokens that are left, up to EOF, which is not among them.
     ///
-    /// The iterator scans in batches, so it is faster than [`scan`](Scanner::scan). The scanner still is where the tokens
-    /// that were given end: if the iterator is dropped early, it goes back to there, and the next call goes on after the
-    /// last token that was given.
+    /// The iterator scans ahead, in batches. This does not show: if the loop is left early, the next call goes on after the
+    /// last token that was given, and line count and errors are those of the tokens given.
     ///
     /// ```
     /// # use cifgwezam::{Kind, Scanner};
@@ -154,8 +168,11 @@ impl<'src> Scanner<'src> {
     /// # Ok::<(), cifgwezam::Refusal>(())
     /// ```
     pub fn batch(&mut self) -> Batch<'_, 'src> {
-        let given = self.fill(Self::MAX_BATCH);
-        Batch::new(self, &self.buffers.tokens[..given])
+        if !self.is_ahead() {
+            self.fill();
+        }
+        let first = std::mem::replace(&mut self.given, self.count);
+        Batch::new(self, &self.buffers.tokens[first..self.count])
     }
 }
 
@@ -174,12 +191,16 @@ impl<'src> Scanner<'src> {
     /// # Ok::<(), cifgwezam::Refusal>(())
     /// ```
     pub fn errors(&self) -> Errors<'_> {
-        Errors::new(&self.state, &self.buffers.list)
+        let errors = Errors::new(&self.state, &self.buffers.list);
+        if self.is_ahead() {
+            return errors.up_to(self.reached().1);
+        }
+        errors
     }
 
     /// How many errors there are so far.
     pub fn error_count(&self) -> usize {
-        self.state[ffi::ERRORS]
+        self.errors().len()
     }
 
     /// The offset, line and column of a position. Lines are known as far as the source was scanned.
@@ -205,17 +226,19 @@ impl<'src> Scanner<'src> {
     ///
     /// It is refused if the line is 0 or above the line count.
     pub fn line_start(&self, line: usize) -> Result<Pos, Refusal> {
+        if line == 0 || line > self.line_count() {
+            return Err(Refusal::Line);
+        }
         let mut answer = 0;
         match ffi::line_start(&self.state, &self.buffers.table, line, &mut answer) {
             0 => Ok(answer),
-            _ if line == 0 || line > self.line_count() => Err(Refusal::Line),
             _ => foreign("a refusal of a line that was read"),
         }
     }
 
     /// How many lines were begun so far.
     pub fn line_count(&self) -> usize {
-        self.state[ffi::LINES]
+        self.lines().0.len()
     }
 
     /// The position of the first character.
@@ -246,7 +269,7 @@ impl fmt::Debug for Scanner<'_> {
             .field("source", &self.source)
             .field("base", &self.base())
             .field("size", &self.size())
-            .field("place", &self.state[ffi::PLACE])
+            .field("place", &self.reached().0)
             .field("line_count", &self.line_count())
             .field("error_count", &self.error_count())
             .finish_non_exhaustive()

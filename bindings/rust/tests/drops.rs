@@ -1,4 +1,4 @@
-//! The iterator over tokens, dropped after any number of them: the scanner is where the tokens that were given end.
+//! The iterator over tokens, left after any number of them: what the scanner tells is that of the tokens given.
 
 mod common;
 
@@ -80,8 +80,7 @@ fn again_and_again() {
     {
         let mut one = Scanner::new(&source).unwrap();
         let mut other = one.clone();
-        loop {
-            let Some(token) = one.tokens().next() else { break };
+        while let Some(token) = one.tokens().next() {
             assert_eq!(token, other.scan());
             assert_eq!((one.line_count(), one.error_count()), (other.line_count(), other.error_count()));
         }
@@ -90,18 +89,38 @@ fn again_and_again() {
     }
 }
 
-/// An iterator that is never dropped leaves the scanner after its batch, and the next token is one that comes later.
+/// Tokens that were scanned ahead come first in every way of calling, and stay with a clone.
 #[test]
-fn forgotten() {
+fn in_turn_with_scans_and_batches() {
     let source = sources::long();
-    let mut scanner = Scanner::new(&source).unwrap();
-    let all = scanned(&mut scanner.clone());
-    let mut tokens = scanner.tokens();
-    let last = tokens.next().unwrap();
-    std::mem::forget(tokens);
-    let rest = scanned(&mut scanner);
-    assert_eq!(rest, all[all.len() - rest.len()..]);
-    assert!(rest[0].pos > last.pos);
+    let mut one = Scanner::new(&source).unwrap();
+    let mut other = one.clone();
+    for count in [1, 5, 40, 300] {
+        let given: Vec<_> = one.tokens().take(count).collect();
+        assert_eq!(given, (0..given.len()).map(|_| other.scan()).collect::<Vec<_>>());
+        assert_same(&one.clone(), &other);
+        assert_eq!(one.scan(), other.scan());
+        for lent in one.batch() {
+            assert_eq!(lent.keep(), other.scan());
+        }
+        assert_same(&one, &other);
+    }
+}
+
+/// The iterator may be the last expression of a block.
+#[test]
+fn as_a_tail() {
+    fn has_function(source: &str) -> bool {
+        let mut scanner = Scanner::new(source).unwrap();
+        scanner.tokens().any(|token| token.kind == Kind::Func)
+    }
+    assert!(has_function("func quota()") && !has_function("quota()"));
+    let mut scanner = Scanner::new("a '' b").unwrap();
+    let mut errors = Vec::new();
+    while let Some(_token) = scanner.tokens().next() {
+        errors.push(scanner.error_count());
+    }
+    assert_eq!(errors, [0, 1, 1, 1]);
 }
 
 #[test]
@@ -111,7 +130,6 @@ fn the_iterator_ends_at_eof() {
     let mut next = || tokens.next().map(|token| token.kind);
     assert_eq!([next(), next(), next()], [Some(Kind::Ident), Some(Kind::Ident), Some(Kind::Semicolon)]);
     assert_eq!([next(), next()], [None, None]);
-    drop(tokens);
     assert_eq!((scanner.tokens().count(), scanner.scan().kind), (0, Kind::Eof));
 }
 

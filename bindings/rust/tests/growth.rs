@@ -57,3 +57,28 @@ fn every_small_length() {
         assert_eq!(scanner.line_count(), length.max(1) + usize::from(length > 0));
     }
 }
+
+/// A line start after each LF, the last one at the end: all that a table can be asked for.
+#[test]
+fn a_start_after_each_line_feed() {
+    for length in 0..100 {
+        let source = "\n".repeat(length);
+        let mut scanner = Scanner::with_size(&source, 0, length + 1).unwrap();
+        scanner.tokens().for_each(drop);
+        assert_eq!(scanner.line_count(), length + 1);
+    }
+}
+
+/// Lines and columns take no search from the first line: that would take minutes here.
+#[test]
+fn many_lines_take_little_time() {
+    let source = "x\n".repeat(200_000);
+    let start = std::time::Instant::now();
+    let mut scanner = Scanner::new(&source).unwrap();
+    let last = scanner.tokens().last().unwrap();
+    assert_eq!((last.position.line, last.position.column), (200_000, 2));
+    for pos in (0..scanner.size()).step_by(7) {
+        assert_eq!(scanner.position(pos).unwrap().line, pos / 2 + 1);
+    }
+    assert!(start.elapsed().as_secs() < 20, "{:?}", start.elapsed());
+}

@@ -25,6 +25,14 @@ fn names_are_spellings() {
     assert_eq!(format!("{:>3}|{:<5}|", Kind::Shl, Kind::If), " <<|if   |");
 }
 
+/// The names are those of the proved table.
+#[test]
+fn names_are_those_of_the_library() {
+    let table = include_str!("../../../crates/kinds/src/names.rt");
+    let rows = table.lines().filter_map(|line| line.strip_prefix("    ")?.strip_suffix('\\'));
+    assert!(rows.map(str::trim).eq(Kind::ALL.map(Kind::name)));
+}
+
 /// The classes part the kinds, in the order of the Go specification.
 #[test]
 fn classes() {

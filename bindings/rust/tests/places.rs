@@ -16,6 +16,9 @@ fn at_a_base() {
 
 #[test]
 fn the_size_is_the_number_of_characters() {
+    for (source, chars) in [("", 0), ("x", 1), ("/*é*/", 5), ("/*€*/", 5), ("/*😀*/é", 6)] {
+        assert_eq!(Scanner::new(source).unwrap().size(), chars);
+    }
     let scanner = Scanner::new("/*éé*/").unwrap();
     assert_eq!((scanner.base(), scanner.size(), scanner.char_count()), (0, 6, 6));
     assert_eq!(scanner.source(), "/*éé*/");

@@ -17,6 +17,8 @@ impl<'src> Scanner<'src> {
             chars: 0,
             state: [0; 7],
             buffers: Buffers::new(source.len().min(Self::MAX_SOURCE)),
+            given: 0,
+            count: 0,
             line: 1,
             changed: 0..0,
         }
@@ -44,6 +46,12 @@ impl<'src> Scanner<'src> {
         }
     }
 
+    /// Whether tokens were scanned that were not given yet.
+    #[inline]
+    pub(crate) fn is_ahead(&self) -> bool {
+        self.given < self.count
+    }
+
     /// Scans one token.
     #[inline]
     pub(super) fn scan_one(&mut self) -> Token<'src> {
@@ -64,23 +72,23 @@ impl<'src> Scanner<'src> {
         self.token_on(self.line, numbers)
     }
 
-    /// Scans up to so many tokens into the buffer; gives how many there are, which is at least one.
-    pub(crate) fn fill(&mut self, room: usize) -> usize {
+    /// Scans tokens into the buffer, as many as there is room for, and at least one. The caller gives the first of them.
+    #[cold]
+    #[inline(never)]
+    pub(crate) fn fill(&mut self) {
         if self.buffers.tokens.is_empty() {
             self.buffers.make_room(Self::MAX_BATCH);
         }
-        let room = room.min(self.buffers.tokens.len());
         let before = self.state[ffi::PLACE];
-        let mut given = 0;
+        (self.given, self.count) = (0, 0);
         loop {
             let Buffers { table, list, area, tokens, .. } = &mut self.buffers;
-            let tokens = &mut tokens[..room];
-            match ffi::scan_many(self.source.as_bytes(), &mut self.state, table, list, area, tokens, &mut given) {
+            match ffi::scan_many(self.source.as_bytes(), &mut self.state, table, list, area, tokens, &mut self.count) {
                 0 => break,
                 refusal => self.buffers.grow(refusal),
             }
         }
-        match self.buffers.tokens[..room].get(..given) {
+        match self.buffers.tokens.get(..self.count) {
             Some([others @ .., last]) => {
                 if Numbers(last).text().in_area {
                     let before = others.last().map_or(before, |token| Numbers(token).range().end);
@@ -89,7 +97,6 @@ impl<'src> Scanner<'src> {
             }
             _ => foreign("an impossible number of tokens"),
         }
-        given
     }
 
     /// Notes the bytes of a token in the area, which is the last of its call. It ends where the call ended, and starts at
@@ -106,29 +113,35 @@ impl<'src> Scanner<'src> {
         }
     }
 
-    #[inline]
-    pub(crate) fn state(&self) -> &ffi::State {
-        &self.state
-    }
-
-    /// Goes back to the state before a batch, and scans the first tokens of it again, fewer than it had. These are the
-    /// same ones, and none of them has its text or value in the area, since a batch ends after one that has.
-    pub(crate) fn go_back(&mut self, before: ffi::State, count: usize) {
-        self.state = before;
-        if count > 0 && self.fill(count) != count {
-            foreign("other tokens to the same call")
-        }
-    }
-
-    /// The token of the buffer with an index, which is the next one to be given; none if it is EOF.
+    /// The next token of those that were scanned ahead.
     #[inline(always)]
-    pub(crate) fn give(&mut self, index: usize) -> Option<Token<'src>> {
-        let numbers = Numbers(&self.buffers.tokens[index]);
-        if numbers.is_eof() {
+    pub(crate) fn give(&mut self) -> Token<'src> {
+        let numbers = Numbers(&self.buffers.tokens[self.given]);
+        self.given += 1;
+        self.line = self.line_from(numbers);
+        self.token_on(self.line, numbers)
+    }
+
+    /// The same, but none for EOF, which counts as given.
+    #[inline(always)]
+    pub(crate) fn give_unless_eof(&mut self) -> Option<Token<'src>> {
+        if Numbers(&self.buffers.tokens[self.given]).is_eof() {
+            self.given += 1;
             return None;
         }
-        self.line = self.line_from(numbers);
-        Some(self.token_on(self.line, numbers))
+        Some(self.give())
+    }
+
+    /// The place and the offset at which the last token that was given ends. Only blanks come between it and the next
+    /// token, and a blank is one byte.
+    pub(super) fn reached(&self) -> (usize, usize) {
+        if !self.is_ahead() {
+            return (self.state[ffi::PLACE], self.state[ffi::OFFSET]);
+        }
+        // the first token of the buffer is given when the buffer is filled
+        let last = self.range(Numbers(&self.buffers.tokens[self.given - 1]));
+        let next = Numbers(&self.buffers.tokens[self.given]);
+        (last.end, self.token_offset(next) - (self.range(next).start - last.end))
     }
 
     /// A token on a line, to keep. Its text and value must be where its scan left them.
@@ -180,19 +193,19 @@ impl<'src> Scanner<'src> {
     /// The line of a token that is not before the last one that was given.
     #[inline]
     fn line_from(&self, numbers: Numbers) -> usize {
-        self.lines().find_from(self.line, self.token_offset(numbers))
+        self.table().find_from(self.line, self.token_offset(numbers))
     }
 
     /// The line of any token.
     #[inline]
     pub(crate) fn line_of(&self, numbers: Numbers) -> usize {
-        self.lines().find(self.token_offset(numbers))
+        self.table().find(self.token_offset(numbers))
     }
 
     /// The position of a token that is on a line.
     #[inline]
     pub(crate) fn position_on(&self, line: usize, numbers: Numbers) -> Position {
-        self.lines().position(line, self.token_offset(numbers))
+        self.table().position(line, self.token_offset(numbers))
     }
 
     /// The bytes that a token was read from.
@@ -228,9 +241,18 @@ impl<'src> Scanner<'src> {
         }
     }
 
-    /// The line starts that are known.
-    #[inline]
+    /// The line starts of the tokens that were given.
     pub(super) fn lines(&self) -> Lines<'_> {
+        let table = self.table();
+        if self.is_ahead() {
+            return Lines(&table.0[..table.find(self.reached().1)]);
+        }
+        table
+    }
+
+    /// All line starts that are known, those of tokens scanned ahead too.
+    #[inline]
+    fn table(&self) -> Lines<'_> {
         match self.buffers.table.get(..self.state[ffi::LINES]) {
             Some(starts) => Lines(starts),
             None => foreign("more lines than the table holds"),
