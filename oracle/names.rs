@@ -96,7 +96,7 @@ fn bytes(hex: &str) -> Vec<u8> {
 
 /// A control character takes one column; only a tab is itself.
 fn plain(c: char) -> char {
-    if c != '\t' && c.is_ascii_control() {
+    if c != '\t' && c.is_control() {
         ' '
     } else {
         c
@@ -110,6 +110,7 @@ fn visible(text: &[u8]) -> String {
         '\n' => "\\n".to_string(),
         '\r' => "\\r".to_string(),
         c if c != '\t' && c.is_ascii_control() => format!("\\x{:02x}", u32::from(c)),
+        c if c != '\t' && c.is_control() => format!("\\u{:04x}", u32::from(c)),
         c => c.to_string(),
     };
     String::from_utf8_lossy(text).chars().map(shown).collect()

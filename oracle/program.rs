@@ -35,6 +35,7 @@ fn limits() -> [(Vec<u8>, &'static str); 8] {
         ("''\n".repeat(1_025).into(), "R 8\n"),
         (raw(32_767), "L 1\n"),
         (raw(32_768), "R 9\n"),
+        ("'\u{9b}\u{b5}\t\u{7f}\u{85}' 08\r\u{1b}\"".into(), "L 1\n"),
     ]
 }
 

@@ -248,6 +248,12 @@ static void test_growth(void)
     check(s.list_len == 512 && scanner_errors(&s) == 100, "the list has grown four times");
     scanner_free(&s);
     free(text);
+    text = repeat("08e\"\n", 200, &len);
+    compare(text, 0);
+    read_all(&s, text, len);
+    check(scanner_errors(&s) == 600, "three errors for each five bytes");
+    scanner_free(&s);
+    free(text);
     text = repeat("a\r", 330, &len);
     text[0] = text[len - 1] = '`';
     compare(text, 1);
@@ -366,6 +372,21 @@ static void test_batches(void)
     free(text);
 }
 
+/* An error is one of the tokens given, also where it is the first thing asked. */
+static void test_error_first(void)
+{
+    struct scanner s;
+    struct scanner_token token;
+    const char *text = "x '' ''";
+    part(scanner_init(&s, (const uint8_t *)text, strlen(text)) == SCANNER_OK, "an init");
+    part(scanner_next(&s, &token) == SCANNER_OK, "a token");
+    check(scanner_error_at(&s, 0).number == 0, "no error of a token that was not given");
+    part(scanner_next(&s, &token) == SCANNER_OK, "a token");
+    check(scanner_error_at(&s, 0).number == SCANNER_ERROR_CHAR, "the error of a token given");
+    check(scanner_error_at(&s, 1).number == 0, "and no other");
+    scanner_free(&s);
+}
+
 static void test_empty(void)
 {
     struct scanner s;
@@ -383,6 +404,7 @@ int main(int argc, char **argv)
     test_refusals();
     test_sizes();
     test_batches();
+    test_error_first();
     test_empty();
     test_random(argc > 1 ? strtoul(argv[1], NULL, 10) : 4000);
     if (argc == 1)

@@ -25,26 +25,37 @@ fn start_of(src: &[u8], line: usize) -> usize {
 
 // A control character takes one column, and only a tab is written as it is.
 fn plain(b: u8) -> u8 {
-    if b == b'\t' {
-        return b;
+    match b {
+        b'\t' => b,
+        0..=31 | 127 => b' ',
+        _ => b,
     }
-    if b < b' ' {
-        return b' ';
+}
+
+// Adds a byte that follows another. LATIN waits for the byte after it.
+fn plain_byte(out: &mut Buffer, waiting: usize, before: u8, b: u8) -> usize {
+    if before == output::LATIN {
+        if b < output::NO_CONTROL {
+            return output::byte(out, waiting, b' ');
+        }
+        return output::latin(out, waiting, b);
     }
-    if b == 127 {
-        return b' ';
+    if b == output::LATIN {
+        return waiting;
     }
-    b
+    output::byte(out, waiting, plain(b))
 }
 
 // The bytes of a line.
 fn text_of(out: &mut Buffer, waiting: usize, src: &[u8], start: usize) -> usize {
     let mut end = waiting;
+    let mut before = 0u8;
     for k in start..src.len() {
         if src[k] == b'\n' {
             return end;
         }
-        end = output::byte(out, end, plain(src[k]));
+        end = plain_byte(out, end, before, src[k]);
+        before = src[k];
     }
     end
 }

@@ -34,29 +34,52 @@ pub(crate) fn bytes(out: &mut Buffer, waiting: usize, s: &[u8]) -> usize {
     end
 }
 
-fn visible_byte(out: &mut Buffer, waiting: usize, b: u8) -> usize {
-    if b == b'\n' {
-        return bytes(out, waiting, b"\\n");
-    }
-    if b == b'\r' {
-        return bytes(out, waiting, b"\\r");
-    }
-    if b < b' ' && b != b'\t' || b == 127 {
-        let end = bytes(out, waiting, b"\\x");
-        return hex_byte(out, end, b);
-    }
-    byte(out, waiting, b)
+// The first byte of the characters U+0080 to U+00BF. Those below U+00A0 are control characters.
+pub(crate) const LATIN: u8 = 0xC2;
+
+pub(crate) const NO_CONTROL: u8 = 0xA0;
+
+// Adds a character of two bytes whose first is LATIN.
+pub(crate) fn latin(out: &mut Buffer, waiting: usize, second: u8) -> usize {
+    let end = byte(out, waiting, LATIN);
+    byte(out, end, second)
 }
 
-// Adds bytes so that each can be seen and none moves the terminal's cursor: a line feed is `\n`, a
-// CR `\r`, another control character but the tab its number. A line feed at the very end is left
-// out.
+// Adds a control character by its number, in hexadecimal.
+fn control(out: &mut Buffer, waiting: usize, b: u8, prefix: &[u8]) -> usize {
+    let end = bytes(out, waiting, prefix);
+    hex_byte(out, end, b)
+}
+
+// Adds a byte that follows another. LATIN waits for the byte after it.
+fn visible_byte(out: &mut Buffer, waiting: usize, before: u8, b: u8) -> usize {
+    if before == LATIN {
+        if b < NO_CONTROL {
+            return control(out, waiting, b, b"\\u00");
+        }
+        return latin(out, waiting, b);
+    }
+    match b {
+        LATIN => waiting,
+        b'\t' => byte(out, waiting, b),
+        b'\n' => bytes(out, waiting, b"\\n"),
+        b'\r' => bytes(out, waiting, b"\\r"),
+        0..=31 | 127 => control(out, waiting, b, b"\\x"),
+        _ => byte(out, waiting, b),
+    }
+}
+
+// Adds bytes of UTF-8 so that each character can be seen and none moves the terminal's cursor: a line
+// feed is `\n`, a CR `\r`, another control character but the tab its number. A line feed at the very
+// end is left out.
 pub(crate) fn visible(out: &mut Buffer, waiting: usize, s: &[u8]) -> usize {
     let mut end = waiting;
+    let mut before = 0u8;
     for k in 0..s.len() {
         if s[k] != b'\n' || k + 1 < s.len() {
-            end = visible_byte(out, end, s[k]);
+            end = visible_byte(out, end, before, s[k]);
         }
+        before = s[k];
     }
     end
 }

@@ -58,7 +58,7 @@ pub(crate) fn refusal(out: &mut Buffer, waiting: usize, number: u8) -> usize {
         refusal::AREA_FULL => output::bytes(
             out,
             waiting,
-            b"a token's text and value have more than 65,536 bytes",
+            b"a token needs more than 65,536 bytes of the text area",
         ),
         _ => output::bytes(out, waiting, b"unknown refusal"),
     }

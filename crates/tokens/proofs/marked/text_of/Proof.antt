@@ -5,10 +5,10 @@ use Rattle.tokens.proofs.marked.text_of.Statement.{statement}
 use Rattle.tokens.proofs.marked.text_of.Tie as tie
 
 abbrev Inv-loop : tie.InvT-loop
-Inv-loop out₀ waiting src start end₀ k₀ k-end out end k = k₀ ≤ k
+Inv-loop out₀ waiting src start end₀ before₀ k₀ k-end out end before k = k₀ ≤ k
 
 abbrev μ-loop : tie.MeasureT-loop
-μ-loop out₀ waiting src start end₀ k₀ k-end out end k = k-end - k
+μ-loop out₀ waiting src start end₀ before₀ k₀ k-end out end before k = k-end - k
 
 loop-holds : tie.Need-loop-holds Inv-loop μ-loop
 loop-holds c = search needs
@@ -19,14 +19,14 @@ shared-slice-read-if1 c = search needs
 returns : tie.Need-returns Inv-loop μ-loop
 returns c = search needs
 
-shared-slice-read-plain : tie.Need-shared-slice-read-plain Inv-loop μ-loop
-shared-slice-read-plain c = search needs
+shared-slice-read-plain-byte : tie.Need-shared-slice-read-plain-byte Inv-loop μ-loop
+shared-slice-read-plain-byte c = search needs
 
-plain-requires : tie.Need-plain-requires Inv-loop μ-loop
-plain-requires c κs = search needs
+plain-byte-requires : tie.Need-plain-byte-requires Inv-loop μ-loop
+plain-byte-requires c κs = search needs
 
-byte-requires : tie.Need-byte-requires Inv-loop μ-loop
-byte-requires c κs = search needs
+shared-slice-read-before : tie.Need-shared-slice-read-before Inv-loop μ-loop
+shared-slice-read-before c = search needs
 
 add-k : tie.Need-add-k Inv-loop μ-loop
 add-k c = search needs
@@ -49,9 +49,9 @@ text-of-spec =
     loop-holds
     shared-slice-read-if1
     returns
-    shared-slice-read-plain
-    plain-requires
-    byte-requires
+    shared-slice-read-plain-byte
+    plain-byte-requires
+    shared-slice-read-before
     add-k
     loop-less
     loop-again

@@ -5,10 +5,10 @@ use Rattle.tokens.proofs.output.visible.Statement.{statement}
 use Rattle.tokens.proofs.output.visible.Tie as tie
 
 abbrev Inv-loop : tie.InvT-loop
-Inv-loop out₀ waiting s end₀ k₀ k-end out end k = k ≤ k-end
+Inv-loop out₀ waiting s end₀ before₀ k₀ k-end out end before k = k ≤ k-end
 
 abbrev μ-loop : tie.MeasureT-loop
-μ-loop out₀ waiting s end₀ k₀ k-end out end k = k-end - k
+μ-loop out₀ waiting s end₀ before₀ k₀ k-end out end before k = k-end - k
 
 loop-holds : tie.Need-loop-holds Inv-loop μ-loop
 loop-holds c = search needs
@@ -24,6 +24,9 @@ shared-slice-read-visible-byte c = search needs
 
 visible-byte-requires : tie.Need-visible-byte-requires Inv-loop μ-loop
 visible-byte-requires c κs = search needs
+
+shared-slice-read-before : tie.Need-shared-slice-read-before Inv-loop μ-loop
+shared-slice-read-before c = search needs
 
 add-k : tie.Need-add-k Inv-loop μ-loop
 add-k c = search needs
@@ -48,6 +51,7 @@ visible-spec =
     add-if2
     shared-slice-read-visible-byte
     visible-byte-requires
+    shared-slice-read-before
     add-k
     loop-less
     loop-again
