@@ -23,9 +23,9 @@ fn raw(n: usize) -> Vec<u8> {
     [b"`\r", "a".repeat(n).as_bytes(), b"`"].concat()
 }
 
-// Texts at the limits of input, line table, error list and text area, and what the listing ends
-// with.
-fn limits() -> [(Vec<u8>, &'static str); 8] {
+// Texts at the limits of input, line table, error list and text area, and one with control
+// characters; and what the listing ends with.
+fn limits() -> [(Vec<u8>, &'static str); 9] {
     [
         (" ".repeat(LONGEST).into(), "65536 1 65537 2 -\nL 1\n"),
         (" ".repeat(LONGEST + 1).into(), "R 2\n"),
