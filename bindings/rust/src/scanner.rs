@@ -266,7 +266,7 @@ impl<'src> Scanner<'src> {
 impl fmt::Debug for Scanner<'_> {
     fn fmt(&self, f: &mut fmt::Formatter<'_>) -> fmt::Result {
         f.debug_struct("Scanner")
-            .field("source", &self.source)
+            .field("source", &format_args!("{} bytes", self.source.len()))
             .field("base", &self.base())
             .field("size", &self.size())
             .field("place", &self.reached().0)

@@ -66,7 +66,7 @@ fn debugging() {
     let mut scanner = Scanner::new("a\nb").unwrap();
     scanner.tokens().nth(2);
     let shown = format!("{scanner:?}");
-    assert_eq!(shown, "Scanner { source: \"a\\nb\", base: 0, size: 3, place: 3, line_count: 2, error_count: 0, .. }");
+    assert_eq!(shown, "Scanner { source: 3 bytes, base: 0, size: 3, place: 3, line_count: 2, error_count: 0, .. }");
     let mut again = scanner.clone();
     let lent = scanner.batch().next().map(|lent| format!("{lent:?}"));
     assert_eq!(lent, Some(format!("{:?}", again.scan())));
