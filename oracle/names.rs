@@ -67,7 +67,7 @@ impl Names {
         format!("{place:<6}  {name:<7}  {shown}\n")
     }
 
-    /// The words, the line of the source and the mark below it.
+    /// The words, the line of the source and the caret below it.
     fn error(&self, line: usize, column: usize, error: usize, source: &[u8]) -> String {
         let source = std::str::from_utf8(source).expect("it was opened");
         let text: String = source.split('\n').nth(line - 1).unwrap_or("").chars().map(plain).collect();

@@ -1,5 +1,5 @@
 // The lines of a listing for people. Each answers how many bytes of output wait then.
-use crate::marked;
+use crate::caret;
 use crate::output;
 use crate::output::Buffer;
 use crate::words;
@@ -7,14 +7,14 @@ use errors::Error;
 use position::Position;
 use scanner::Token;
 
-// How many digits the column of places has room for, and how wide the column of kinds is. Two
-// spaces follow each.
-const PLACE_DIGITS: usize = 5;
+// How many digits there is room for in a line and a column, and how wide a kind may be. Two spaces
+// follow each.
+const POSITION_DIGITS: usize = 5;
 
 const KIND_WIDTH: usize = 7;
 
 // A line and a column, as `4:18`.
-fn place(out: &mut Buffer, waiting: usize, line: usize, column: usize) -> usize {
+fn line_and_column(out: &mut Buffer, waiting: usize, line: usize, column: usize) -> usize {
     let mut end = output::decimal(out, waiting, line);
     end = output::byte(out, end, b':');
     output::decimal(out, end, column)
@@ -28,16 +28,16 @@ fn left(width: usize, taken: usize) -> usize {
     0
 }
 
-// The spaces that fill what is left of a column, and two more.
+// The spaces that fill what is left of a width, and two more.
 fn fill(out: &mut Buffer, waiting: usize, left: usize) -> usize {
     let end = output::spaces(out, waiting, left);
     output::spaces(out, end, 2)
 }
 
-// A place, filled up to the width of its column.
-fn place_column(out: &mut Buffer, waiting: usize, at: Position) -> usize {
-    let end = place(out, waiting, at.line, at.column);
-    let of_line = left(PLACE_DIGITS, output::digits(at.line));
+// The same, filled up to its width.
+fn padded_position(out: &mut Buffer, waiting: usize, at: Position) -> usize {
+    let end = line_and_column(out, waiting, at.line, at.column);
+    let of_line = left(POSITION_DIGITS, output::digits(at.line));
     fill(out, end, left(of_line, output::digits(at.column)))
 }
 
@@ -79,18 +79,18 @@ pub(crate) fn token(
     token: Token,
     text: &[u8],
 ) -> usize {
-    let mut end = place_column(out, waiting, at);
+    let mut end = padded_position(out, waiting, at);
     end = named(out, end, token, text);
     output::byte(out, end, b'\n')
 }
 
-// An error in words, with its line of the source and its place marked below it.
+// An error in words, with its line of the source and a caret below it.
 pub(crate) fn error(out: &mut Buffer, waiting: usize, src: &[u8], error: Error) -> usize {
-    let mut end = place(out, waiting, error.line, error.column);
+    let mut end = line_and_column(out, waiting, error.line, error.column);
     end = output::bytes(out, end, b": ");
     end = words::error(out, end, error.number);
     end = output::byte(out, end, b'\n');
-    marked::line(out, end, src, error.line, error.column)
+    caret::line(out, end, src, error.line, error.column)
 }
 
 // A count of things, as `2 errors`.

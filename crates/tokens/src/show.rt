@@ -5,8 +5,8 @@ use errors::Error;
 use position::Position;
 use scanner::Token;
 
-// A place, with a space after each of its numbers.
-fn place(out: &mut Buffer, waiting: usize, at: Position) -> usize {
+// Offset, line and column, with a space after each.
+fn located(out: &mut Buffer, waiting: usize, at: Position) -> usize {
     let mut end = output::decimal(out, waiting, at.offset);
     end = output::byte(out, end, b' ');
     end = output::decimal(out, end, at.line);
@@ -46,7 +46,7 @@ pub(crate) fn token(
     text: &[u8],
     value: &[u8],
 ) -> usize {
-    let mut end = place(out, waiting, at);
+    let mut end = located(out, waiting, at);
     end = output::decimal(out, end, token.kind as usize);
     end = output::byte(out, end, b' ');
     end = text_of(out, end, token, text);
@@ -61,7 +61,7 @@ pub(crate) fn error(out: &mut Buffer, waiting: usize, error: Error) -> usize {
         column: error.column,
     };
     let mut end = output::bytes(out, waiting, b"E ");
-    end = place(out, end, at);
+    end = located(out, end, at);
     end = output::decimal(out, end, error.number);
     output::byte(out, end, b'\n')
 }

@@ -1,8 +1,8 @@
--- `tokens::marked::text_of` meets its contract: the loop ends, and each index is below the count.
+-- `tokens::caret::text_of` meets its contract: the loop ends, and each index is below the count.
 use Prim.Native.Nat.{_≤_, _-_}
 use borrow.Author.Needs.{needs}
-use Rattle.tokens.proofs.marked.text_of.Statement.{statement}
-use Rattle.tokens.proofs.marked.text_of.Tie as tie
+use Rattle.tokens.proofs.caret.text_of.Statement.{statement}
+use Rattle.tokens.proofs.caret.text_of.Tie as tie
 
 abbrev Inv-loop : tie.InvT-loop
 Inv-loop out₀ waiting src start end₀ before₀ k₀ k-end out end before k = k₀ ≤ k

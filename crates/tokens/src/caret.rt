@@ -1,8 +1,9 @@
-// A line of the source with a mark below one of its columns.
+// A line of the source with a caret, `^`, below one of its columns.
 use crate::output;
 use crate::output::Buffer;
 
-// How far a mark has come: how many bytes of output wait, and the columns that are left.
+// How far the way to the caret has come: how many bytes of output wait, and the columns that are
+// left.
 struct Reached {
     waiting: usize,
     left: usize,
@@ -86,7 +87,7 @@ fn margin(out: &mut Buffer, waiting: usize, src: &[u8], start: usize, column: us
     Reached { waiting: end, left }
 }
 
-// The line, and below it a mark at the column, which may be past the line's end.
+// The line, and below it a caret at the column, which may be past the line's end.
 pub(crate) fn line(
     out: &mut Buffer,
     waiting: usize,

@@ -1,8 +1,8 @@
--- `tokens::marked::margin` meets its contract: the loop ends, and each index is below the count.
+-- `tokens::caret::margin` meets its contract: the loop ends, and each index is below the count.
 use Prim.Native.Nat.{_≤_, _-_}
 use borrow.Author.Needs.{needs}
-use Rattle.tokens.proofs.marked.margin.Statement.{statement}
-use Rattle.tokens.proofs.marked.margin.Tie as tie
+use Rattle.tokens.proofs.caret.margin.Statement.{statement}
+use Rattle.tokens.proofs.caret.margin.Tie as tie
 
 abbrev Inv-loop : tie.InvT-loop
 Inv-loop out₀ waiting src start column end₀ left₀ k₀ k-end out end left k = k₀ ≤ k

@@ -1,8 +1,8 @@
--- `tokens::marked::start_of` meets its contract: the loop ends, and each index is below the count.
+-- `tokens::caret::start_of` meets its contract: the loop ends, and each index is below the count.
 use Prim.Native.Nat.{_≤_, _-_}
 use borrow.Author.Needs.{needs}
-use Rattle.tokens.proofs.marked.start_of.Statement.{statement}
-use Rattle.tokens.proofs.marked.start_of.Tie as tie
+use Rattle.tokens.proofs.caret.start_of.Statement.{statement}
+use Rattle.tokens.proofs.caret.start_of.Tie as tie
 
 abbrev Inv-loop : tie.InvT-loop
 Inv-loop src line start₀ left₀ k₀ k-end start left k = k ≤ k-end
