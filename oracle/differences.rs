@@ -22,6 +22,9 @@ macro_rules! entries {
 entries! {
     EmptyLiteral "An empty character literal",
     LongLiteral "A character literal of more than one character",
+    OverRange "An escape over its range",
+    NoToken "A character that starts no token",
+    TwoDots "Two dots",
     HexByte "A byte given by `\\x` in a string",
     OctalByte "A byte given in octal in a string",
     LetterR "The letter r after a comment",
@@ -75,6 +78,11 @@ const ODD: char = '#';
 const QUOTE: char = '`';
 const BLANK: char = ' ';
 const LETTER: char = 'q';
+
+// Errors that ours records where the original records none.
+const NO_CODE_POINT: usize = 12;
+const NOT_ONE_CHARACTER: usize = 13;
+const NO_TOKEN: usize = 14;
 
 impl Asked {
     fn ask(&mut self) {
@@ -163,14 +171,18 @@ impl Asked {
 
     // Adds what ours must give for a token of theirs.
     fn put(&mut self, row: Row, out: &mut Listing) {
-        let text = self.theirs.text(&row);
         if self.has_stand_in(&row) {
             let text = self.turned_back(&row);
-            return if row.kind == STRING {
-                put_illegal(row, text.as_bytes(), out)
-            } else {
-                out.push(row, text.as_bytes(), b"")
+            return match row.kind {
+                STRING => put_illegal(row, &text, NOT_ONE_CHARACTER, out),
+                ILLEGAL => self.put_stray(row, &text, out),
+                _ => out.push(row, text.as_bytes(), b""),
             };
+        }
+        let text = self.theirs.text(&row);
+        if row.kind == ILLEGAL {
+            let text = String::from_utf8_lossy(text).into_owned();
+            return self.put_stray(row, &text, out);
         }
         let quoted = matches!(row.kind, CHAR | STRING) && text[0] != b'`' && text.len() > 3;
         let Some(body) = quoted.then(|| Body::of(text)).flatten() else {
@@ -178,13 +190,24 @@ impl Asked {
         };
         if row.kind == CHAR && body.characters > 1 {
             self.reasons.add(Entry::LongLiteral);
-            put_illegal(row, self.theirs.text(&row), out);
+            put_illegal(row, &String::from_utf8_lossy(text), NOT_ONE_CHARACTER, out);
         } else if row.kind == STRING && (body.hex || body.octal) {
             out.push(row, text, &body.value);
             self.reasons.0 |= u32::from(body.hex) << Entry::HexByte as u32;
             self.reasons.0 |= u32::from(body.octal) << Entry::OctalByte as u32;
         } else {
             out.push(row, text, self.theirs.value(&row));
+        }
+    }
+
+    // Adds an ILLEGAL of theirs, and the error that the original does not record for it.
+    fn put_stray(&mut self, row: Row, text: &str, out: &mut Listing) {
+        match unrecorded(text) {
+            Some((number, entry)) => {
+                self.reasons.add(entry);
+                put_illegal(row, text, number, out);
+            }
+            None => out.push(row, text.as_bytes(), b""),
         }
     }
 
@@ -203,12 +226,48 @@ impl Asked {
     }
 }
 
-// ILLEGAL with error 13 after it. A character literal holds no line feed, so the line is that of
-// its start.
-fn put_illegal(row: Row, text: &[u8], out: &mut Listing) {
-    let length = String::from_utf8_lossy(text).chars().count();
-    out.push(Row { kind: ILLEGAL, code: 0, ..row }, text, b"");
-    out.errors.push([row.offset + length, row.line, row.column + length, 13]);
+// ILLEGAL with an error after it. It holds no line feed, so the line is that of its start.
+fn put_illegal(row: Row, text: &str, number: usize, out: &mut Listing) {
+    let length = text.chars().count();
+    out.push(Row { kind: ILLEGAL, code: 0, ..row }, text.as_bytes(), b"");
+    out.errors.push([row.offset + length, row.line, row.column + length, number]);
+}
+
+// The error that ours must record for an ILLEGAL of the original, where the original records none.
+fn unrecorded(text: &str) -> Option<(usize, Entry)> {
+    let quoted = text.starts_with(['"', '\'']);
+    if text == ".." {
+        Some((NO_TOKEN, Entry::TwoDots))
+    } else if !quoted && text.chars().count() == 1 {
+        Some((NO_TOKEN, Entry::NoToken))
+    } else if quoted && ends_over_range(text) {
+        Some((NO_CODE_POINT, Entry::OverRange))
+    } else {
+        None
+    }
+}
+
+// Whether a literal ends in an escape whose number is above 255, or above 10FFFF.
+fn ends_over_range(literal: &str) -> bool {
+    let mut rest = literal;
+    while let Some(at) = rest.find('\\') {
+        rest = &rest[at + 1..];
+        let (letter, digits, base, most) = match rest.as_bytes().first() {
+            Some(b'0'..=b'7') => (0, 3, 8, 0xff),
+            Some(b'x') => (1, 2, 16, 0xff),
+            Some(b'u') => (1, 4, 16, 0x10ffff),
+            Some(b'U') => (1, 8, 16, 0x10ffff),
+            Some(_) => (1, 0, 10, 0),
+            None => return false,
+        };
+        let Some(number) = rest.get(letter..letter + digits) else { return false };
+        let over = u32::from_str_radix(number, base).is_ok_and(|number| number > most);
+        rest = &rest[letter + digits..];
+        if over && rest.is_empty() {
+            return true;
+        }
+    }
+    false
 }
 
 fn has_letters(theirs: &Listing, row: &Row) -> bool {
@@ -293,6 +352,7 @@ impl Body {
 fn concerns(theirs: &Listing, row: &Row) -> bool {
     let text = theirs.text(row);
     match row.kind {
+        ILLEGAL => true,
         IDENT => !text.is_ascii(),
         COMMENT => text.starts_with(b"/*"),
         CHAR => text.len() > 3,

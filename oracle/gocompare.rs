@@ -236,15 +236,15 @@ impl Found {
     }
 
     /// Compares the errors. Where Go has one, ours has one too, or there is a reason why it is
-    /// silent. Where Go has none, ours has none, except for numbers that Go reads and ours does
-    /// not.
-    fn judged(mut self, silent: bool, errors: usize, reason: Option<&'static str>) -> Option<Found> {
-        if let (true, Some(count)) = (silent, self.stopped.get(BAD).copied()) {
+    /// silent. Where Go has none, ours has none, except for what Go reads and ours does not: a `~`,
+    /// a byte order mark at the start, and some numbers.
+    fn judged(mut self, errors: usize, reason: Option<&'static str>) -> Option<Found> {
+        if let (0, Some(count)) = (errors, self.stopped.get(BAD).copied()) {
             self.stopped.remove(BAD);
             self.stopped.insert(reason?, count);
         }
-        let numbers = [HEX_FLOAT, ZERO_FLOAT].iter().any(|reason| self.passed.contains_key(reason));
-        let explained = errors == 0 || numbers || !self.stopped.is_empty();
+        let narrow = [HEX_FLOAT, ZERO_FLOAT, TILDE, MARK].iter().any(|reason| self.passed.contains_key(reason));
+        let explained = errors == 0 || narrow || !self.stopped.is_empty();
         explained.then_some(self)
     }
 }
@@ -363,8 +363,7 @@ fn source(source: &[u8], theirs: &[Theirs]) -> Result<Found, usize> {
         Ok((ours, errors)) => {
             let mut pair = Pair { ours: &ours, theirs, held: false, tilde: false, found: Found::default() };
             pair.run()?;
-            let silent = errors == 0 && ours.iter().all(|own| own.kind != Kind::Illegal);
-            pair.found.judged(silent, errors, bad.and_then(|bad| lenient(source, bad))).ok_or(source.len())
+            pair.found.judged(errors, bad.and_then(|bad| lenient(source, bad))).ok_or(source.len())
         }
         Err(Refusal::TooLong) if source.len() > Scanner::MAX_SOURCE => Ok(aside(LONG)),
         Err(Refusal::NotUtf8 { .. }) if bad.is_some() => Ok(aside(UTF8)),

@@ -140,7 +140,10 @@ enum scanner_refusal {
     SCANNER_NO_MEMORY = 255 /* struct scanner: a buffer could not grow */
 };
 
-/* The errors of a source. */
+/*
+ * The errors of a source. Every token of kind SCANNER_KIND_ILLEGAL has one. The only other tokens
+ * with one are a raw string and a comment that is not closed.
+ */
 enum scanner_error_number {
     SCANNER_ERROR_BINARY = 1,   /* bad binary number */
     SCANNER_ERROR_OCTAL,        /* bad octal number */
@@ -153,8 +156,9 @@ enum scanner_error_number {
     SCANNER_ERROR_ESCAPE,       /* unknown escape */
     SCANNER_ERROR_ESCAPE_CUT,   /* escape cut by the end */
     SCANNER_ERROR_ESCAPE_CHAR,  /* bad character in an escape */
-    SCANNER_ERROR_CODE_POINT,   /* no Unicode code point */
-    SCANNER_ERROR_CHAR          /* character literal not of one character */
+    SCANNER_ERROR_CODE_POINT,   /* escape of no byte, or of no Unicode code point */
+    SCANNER_ERROR_CHAR,         /* character literal not of one character */
+    SCANNER_ERROR_TOKEN         /* no token: a stray character, or two points */
 };
 
 /* The kinds of tokens. */
@@ -317,8 +321,10 @@ static inline const char *scanner_error_text(size_t number)
     case SCANNER_ERROR_ESCAPE: return "unknown escape";
     case SCANNER_ERROR_ESCAPE_CUT: return "source ends inside an escape";
     case SCANNER_ERROR_ESCAPE_CHAR: return "bad character in an escape";
-    case SCANNER_ERROR_CODE_POINT: return "escape is not a Unicode code point";
+    case SCANNER_ERROR_CODE_POINT:
+        return "escape is out of range: not a byte, or not a Unicode code point";
     case SCANNER_ERROR_CHAR: return "character literal must have exactly one character";
+    case SCANNER_ERROR_TOKEN: return "not a token: a stray character, or '..'";
     default: return "unknown error";
     }
 }

@@ -165,7 +165,7 @@ static const struct row rows[] = {
     {"0X1F", 0, "0 1 1 5 30783146|4 1 5 55 -|4 1 5 2 -|L 1"},
     {"''", 0, "0 1 1 1 2727|2 1 3 55 -|2 1 3 2 -|E 2 1 3 13|L 1"},
     {"'ab'", 0, "0 1 1 1 27616227|4 1 5 55 -|4 1 5 2 -|E 4 1 5 13|L 1"},
-    {"\"\\400\"", 0, "0 1 1 1 225c343030|5 1 6 1 22|6 1 7 55 -|6 1 7 2 -|E 6 1 7 8|L 1"},
+    {"\"\\400\"", 0, "0 1 1 1 225c343030|5 1 6 1 22|6 1 7 55 -|6 1 7 2 -|E 5 1 6 12|E 6 1 7 8|L 1"},
     {"x /* c */ r\n", 0, "0 1 1 4 78|2 1 3 3 2f2a2063202a2f|10 1 11 4 72|11 1 12 55 -|12 1 13 2 -|L 1"},
     {"1__0", 0, "0 1 1 1 315f|2 1 3 4 5f30|4 1 5 55 -|4 1 5 2 -|E 2 1 3 4|L 1"},
     {"`\n", 0, "0 1 1 9 600a 0a|2 1 3 55 -|2 1 3 2 -|E 2 1 3 6|L 1"},
@@ -532,14 +532,14 @@ static void test_classes(void)
 static void test_texts(void)
 {
     size_t i, j;
-    for (i = 0; i <= SCANNER_ERROR_CHAR; i++)
+    for (i = 0; i <= SCANNER_ERROR_TOKEN; i++)
         for (j = 0; j < i; j++)
             part(strcmp(scanner_error_text(i), scanner_error_text(j)) != 0, scanner_error_text(i));
     for (i = 0; i <= SCANNER_AREA_FULL + 1; i++)
         for (j = 0; j < i; j++)
             part(strcmp(scanner_refusal_text(i), scanner_refusal_text(j)) != 0,
                  scanner_refusal_text(i));
-    check(strcmp(scanner_error_text(SCANNER_ERROR_CHAR + 1), "unknown error") == 0, "no error");
+    check(strcmp(scanner_error_text(SCANNER_ERROR_TOKEN + 1), "unknown error") == 0, "no error");
     check(strcmp(scanner_refusal_text(SCANNER_AREA_FULL + 1), "unknown refusal") == 0,
           "no refusal of the library");
     check(strcmp(scanner_refusal_text(SCANNER_NO_MEMORY), "not enough memory") == 0,
@@ -549,7 +549,7 @@ static void test_texts(void)
 int main(void)
 {
     check(SCANNER_KINDS == 82 && SCANNER_KIND_VAR == 81 && SCANNER_KIND_SEMICOLON == 55, "82 kinds");
-    check(SCANNER_AREA_FULL == 9 && SCANNER_ERROR_CHAR == 13, "9 refusals, 13 errors");
+    check(SCANNER_AREA_FULL == 9 && SCANNER_ERROR_TOKEN == 14, "9 refusals, 14 errors");
     test_precedence();
     test_classes();
     test_texts();

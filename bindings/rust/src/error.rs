@@ -25,9 +25,9 @@ macro_rules! error_kinds {
 
         impl ErrorKind {
             /// All kinds of errors, in the order of their numbers.
-            pub const ALL: [ErrorKind; 13] = [$(ErrorKind::$kind,)*];
+            pub const ALL: [ErrorKind; 14] = [$(ErrorKind::$kind,)*];
 
-            const MESSAGES: [&'static str; 13] = [$($message,)*];
+            const MESSAGES: [&'static str; 14] = [$($message,)*];
         }
     };
 }
@@ -55,14 +55,16 @@ error_kinds! {
     CutEscape = 10, "source ends inside an escape";
     /// An escape has a character that is not a digit of it.
     BadEscape = 11, "bad character in an escape";
-    /// The number of an escape is not a Unicode code point.
-    NoCodePoint = 12, "escape is not a Unicode code point";
+    /// The number of an escape is no byte, as in `\400`, or no Unicode code point.
+    NoCodePoint = 12, "escape is out of range: not a byte, or not a Unicode code point";
     /// A character literal has no character, or more than one.
     NotOneCharacter = 13, "character literal must have exactly one character";
+    /// A character starts no token, such as `#`, or two points have no third.
+    NoToken = 14, "not a token: a stray character, or '..'";
 }
 
 impl ErrorKind {
-    /// Its number, 1 to 13, which is the same in the C interface.
+    /// Its number, 1 to 14, which is the same in the C interface.
     pub const fn number(self) -> u8 {
         self as u8
     }
@@ -89,6 +91,8 @@ impl std::error::Error for ErrorKind {}
 /// An error of a source: what is wrong, and where. It is shown as `line:column: message`.
 ///
 /// The scanner notes an error and goes on after it. [`Scanner::errors`](crate::Scanner::errors) lists them.
+/// Every token of kind [`Illegal`](crate::Kind::Illegal) has one. The only other tokens with one are
+/// a raw string and a comment that is not closed.
 ///
 /// ```
 /// # use cifgwezam::{ErrorKind, Scanner};

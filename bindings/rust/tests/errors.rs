@@ -1,6 +1,6 @@
 //! The errors of a source.
 
-use cifgwezam::{Error, ErrorKind, Scanner};
+use cifgwezam::{Error, ErrorKind, Kind, Scanner};
 use std::collections::HashSet;
 
 fn errors(source: &str) -> Vec<Error> {
@@ -10,8 +10,8 @@ fn errors(source: &str) -> Vec<Error> {
 }
 
 /// A source for each kind, in order.
-const SOURCES: [&str; 13] =
-    ["0b", "08", "0x", "1__0", "1e", "`", "/*", "'", "'\\k'", "'\\x", "'\\xg", "'\\uD800", "''"];
+const SOURCES: [&str; 14] =
+    ["0b", "08", "0x", "1__0", "1e", "`", "/*", "'", "'\\k'", "'\\x", "'\\xg", "'\\uD800", "''", "#"];
 
 #[test]
 fn each_kind() {
@@ -22,8 +22,64 @@ fn each_kind() {
         assert_eq!(error.to_string(), format!("{}: {kind}", error.position));
         messages.insert(kind.message());
     }
-    assert_eq!(messages.len(), 13);
+    assert_eq!(messages.len(), 14);
     assert!(messages.iter().all(|message| message.starts_with(char::is_lowercase) && !message.ends_with('.')));
+}
+
+/// The kinds of the tokens, and each error as its number and its offset.
+fn scanned(source: &str) -> (Vec<Kind>, Vec<(u8, usize)>) {
+    let mut scanner = Scanner::new(source).unwrap();
+    let kinds = scanner.tokens().map(|token| token.kind).collect();
+    (kinds, scanner.errors().map(|error| (error.kind.number(), error.position.offset)).collect())
+}
+
+#[test]
+fn what_is_no_token_has_an_error_after_it() {
+    use Kind::{Ellipsis, Eof, Ident, Illegal, Period, Semicolon};
+    let cases: [(&str, &[Kind], &[(u8, usize)]); 8] = [
+        ("#", &[Illegal, Eof], &[(14, 1)]),
+        ("@\n", &[Illegal, Eof], &[(14, 1)]),
+        ("é", &[Illegal, Eof], &[(14, 1)]),
+        ("..", &[Illegal, Eof], &[(14, 2)]),
+        ("...", &[Ellipsis, Eof], &[]),
+        ("....", &[Ellipsis, Period, Eof], &[]),
+        ("x..", &[Ident, Illegal, Semicolon, Eof], &[(14, 3)]),
+        ("x @", &[Ident, Illegal, Semicolon, Eof], &[(14, 3)]),
+    ];
+    for (source, kinds, errors) in cases {
+        assert_eq!(scanned(source), (kinds.to_vec(), errors.to_vec()), "{source}");
+    }
+}
+
+#[test]
+fn an_escape_out_of_its_range_has_an_error_after_it() {
+    use Kind::{Char, Eof, Ident, Illegal, Semicolon, String};
+    let twice = [Illegal, Illegal, Semicolon, Eof];
+    let cases: [(&str, &[Kind], &[(u8, usize)]); 9] = [
+        (r#""\400""#, &twice, &[(12, 5), (8, 6)]),
+        (r"'\400'", &twice, &[(12, 5), (8, 6)]),
+        (r#""\400"#, &[Illegal, Semicolon, Eof], &[(12, 5)]),
+        (r#""\U00110000""#, &twice, &[(12, 11), (8, 12)]),
+        (r"'\uD800'", &twice, &[(12, 7), (8, 8)]),
+        (r#""a\400b""#, &[Illegal, Ident, Illegal, Semicolon, Eof], &[(12, 6), (8, 8)]),
+        (r#""\x""#, &twice, &[(11, 3), (8, 4)]),
+        (r#""\377""#, &[String, Semicolon, Eof], &[]),
+        (r"'\U0010FFFF'", &[Char, Semicolon, Eof], &[]),
+    ];
+    for (source, kinds, errors) in cases {
+        assert_eq!(scanned(source), (kinds.to_vec(), errors.to_vec()), "{source}");
+    }
+}
+
+#[test]
+fn every_illegal_has_an_error() {
+    for source in SOURCES {
+        let (kinds, errors) = scanned(&format!("# .. {source}"));
+        let illegal = kinds.iter().filter(|kind| **kind == Kind::Illegal).count();
+        let open = errors.iter().filter(|(number, _)| matches!(number, 6 | 7)).count();
+        assert!(errors.len() > 2, "{source}");
+        assert_eq!(errors.len(), illegal + open, "{source}");
+    }
 }
 
 #[test]

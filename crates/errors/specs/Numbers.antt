@@ -53,3 +53,7 @@ NO-CODE-POINT = 12
 -- character literal not of one character
 abbrev pub NOT-ONE-CHARACTER : ℕ
 NOT-ONE-CHARACTER = 13
+
+-- a stray character or `..`
+abbrev pub NO-TOKEN : ℕ
+NO-TOKEN = 14

@@ -15,6 +15,7 @@ pub use names::BAD_OCTAL;
 pub use names::CUT_ESCAPE;
 pub use names::MISPLACED_UNDERSCORE;
 pub use names::NO_CODE_POINT;
+pub use names::NO_TOKEN;
 pub use names::NOT_ONE_CHARACTER;
 pub use names::OPEN_COMMENT;
 pub use names::OPEN_QUOTE;

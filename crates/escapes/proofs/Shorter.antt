@@ -7,10 +7,9 @@ use native.Mathlib.Omega.{arith}
 use lib.Dec.{eqb, ltb, lit≤, lit<}
 use lib.ListN.{length}
 use borrow.Author.Tests.{eqb-true, ltb-true, lt-ltb}
-use Rattle.basics.specs.Between.{between}
 use Rattle.basics.proofs.Choice.{cond-ind, true-of}
 use Rattle.utf8.specs.declared.Char.{Char}
-use Rattle.utf8.specs.Chars.{octets, encode}
+use Rattle.utf8.specs.Chars.{octets, isScalar, encode}
 use Rattle.digits.specs.Digit.{digitVal}
 use Rattle.escapes.specs.declared.escape_digits.EscapeDigits.{EscapeDigits}
 use Rattle.escapes.specs.Answers.{Meaning, Escape, bytesOf}
@@ -54,9 +53,8 @@ code-short : (n : EscapeDigits) (m : ℕ) → (n .error ≡ 0 → 4 ≤ m) → l
 unfolding codePointOf
 code-short n m f =
     cond-ind (λ (g : Meaning). length (bytesOf g) ≤ m) (eqb (n .error) 0) _ _
-    (λ e. cond-ind (λ (g : Meaning). length (bytesOf g) ≤ m) (ltb 0x10FFFF (n .value)) _ _ (λ _. omega arith)
-    (λ _. cond-ind (λ (g : Meaning). length (bytesOf g) ≤ m) (between 0xD800 (n .value) 0xDFFF) _ _ (λ _. omega arith)
-    (λ _. omega (arith, encode-most (n .value), f (eqb-true (n .error) 0 e)))))
+    (λ e. cond-ind (λ (g : Meaning). length (bytesOf g) ≤ m) (isScalar (n .value)) _ _
+    (λ _. omega (arith, encode-most (n .value), f (eqb-true (n .error) 0 e))) (λ _. omega arith))
     (λ _. omega arith)
 
 hex-shorter : (first : ℕ) (r : List Char) → Shorter (hexEscape first r)

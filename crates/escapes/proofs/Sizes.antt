@@ -1,4 +1,4 @@
--- How many bytes an escape gives, and that a byte is one.
+-- How many bytes an escape gives.
 use Prim.Native.Nat.{ℕ, _+_, _*_, _≤_}
 use mathlib.Core.Path.{_≡_, sym, subst}
 use mathlib.Core.Bool.{true, false, cond}
@@ -6,8 +6,6 @@ use mathlib.Core.List.{List, [], _∷_}
 use native.Mathlib.Omega.{arith}
 use lib.Dec.{eqb, ltb, lit≤}
 use lib.ListN.{length}
-use borrow.Author.Tests.{ltb-false}
-use Rattle.basics.specs.Between.{between}
 use Rattle.basics.proofs.Choice.{cond-ind}
 use Rattle.utf8.specs.declared.Char.{Char}
 use Rattle.utf8.specs.Chars.{octets, isScalar, encode}
@@ -62,37 +60,3 @@ escape-bytes quote (c ∷ r) =
 
 pub escape-gives : (quote : ℕ) (r : List Char) (x : Escape) (g : Meaning) → x ≡ escapeOf quote r → x .meaning ≡ g → length (bytesOf g) ≤ 2 * (x .len + 1)
 escape-gives quote r x g e v = subst (λ (y : Meaning). length (bytesOf y) ≤ 2 * (x .len + 1)) v (subst Twice (sym e) (escape-bytes quote r))
-
--- ---- a byte that an escape gives is one
-abbrev Small : Meaning → Type 0
-Small (character code true) = code ≤ 255
-Small (character code false) = Unit {0}
-Small (noCharacter error) = Unit {0}
-
-byte-small : (n : EscapeDigits) → Small (byteOf n)
-unfolding byteOf
-byte-small n =
-    cond-ind Small (eqb (n .error) 0) _ _ (λ _. cond-ind Small (ltb 255 (n .value)) _ _ (λ _. tt) (λ e. ltb-false 255 (n .value) e)) (λ _. tt)
-
-code-small : (n : EscapeDigits) → Small (codePointOf n)
-unfolding codePointOf
-code-small n =
-    cond-ind Small (eqb (n .error) 0) _ _
-    (λ _. cond-ind Small (ltb 0x10FFFF (n .value)) _ _ (λ _. tt) (λ _. cond-ind Small (between 0xD800 (n .value) 0xDFFF) _ _ (λ _. tt) (λ _. tt))) (λ _. tt)
-
-abbrev SmallEscape : Escape → Type 0
-SmallEscape x = Small (x .meaning)
-
-escape-small : (quote : ℕ) (r : List Char) → SmallEscape (escapeOf quote r)
-unfolding escapeOf octalEscape hexEscape
-escape-small quote [] = tt
-escape-small quote (c ∷ r) =
-    cond-ind SmallEscape (eqb (letter (c .code)) 0) _ _
-    (λ _. cond-ind SmallEscape (eqb (c .code) quote) _ _ (λ _. tt)
-    (λ _. cond-ind SmallEscape (ltb (digitVal (c .code)) 8) _ _ (λ _. byte-small (escapeDigits 8 3 0 (c ∷ r)))
-    (λ _. cond-ind SmallEscape (eqb (following (c .code)) 0) _ _ (λ _. tt)
-    (λ _. cond-ind Small (eqb (c .code) 120) _ _ (λ _. byte-small (escapeDigits 16 (following (c .code)) 0 r)) (λ _. code-small (escapeDigits 16 (following (c .code)) 0 r))))))
-    (λ _. tt)
-
-pub escape-byte : (quote : ℕ) (r : List Char) (code : ℕ) → escapeOf quote r .meaning ≡ character code true → code ≤ 255
-escape-byte quote r code e = subst Small e (escape-small quote r)

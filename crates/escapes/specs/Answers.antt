@@ -10,7 +10,7 @@ use Rattle.escapes.specs.declared.Escaped.{Escaped}
 pub data Meaning : Type 0 where
   -- a character by its code, and whether it is that one byte
   character : ℕ → Bool → Meaning
-  -- none, with the number of the error; 0 where there is no error
+  -- none, with the number of the error
   noCharacter : ℕ → Meaning
 
 pub record Escape : Type 0 where

@@ -4,8 +4,8 @@ use Prim.Native.Char.{code}
 use mathlib.Core.Bool.{true, false, cond}
 use mathlib.Core.List.{List, [], _∷_}
 use lib.Dec.{ltb, eqb}
-use Rattle.basics.specs.Between.{between}
 use Rattle.utf8.specs.declared.Char.{Char}
+use Rattle.utf8.specs.Chars.{isScalar}
 use Rattle.errors.specs.Numbers.{UNKNOWN-ESCAPE, CUT-ESCAPE, NO-CODE-POINT}
 use Rattle.digits.specs.Digit.{digitVal}
 use Rattle.escapes.specs.declared.escape_digits.EscapeDigits.{EscapeDigits}
@@ -40,20 +40,18 @@ digitCounts = (code "x", 2) ∷ (code "u", 4) ∷ (code "U", 8) ∷ []
 unfoldable pub following : ℕ → ℕ
 following c = entryFor c digitCounts
 
--- digits whose value is above the range: "Over-range escapes" have no error
-abbrev pub overRange : Meaning
-overRange = noCharacter 0
+-- digits whose number is out of range, above it or a surrogate: "An over-range escape now records
+-- error 12"
+abbrev pub outOfRange : Meaning
+outOfRange = noCharacter NO-CODE-POINT
 
 -- a byte by its digits
 unfoldable pub byteOf : EscapeDigits → Meaning
-byteOf n = cond (eqb (n .error) 0) (cond (ltb 0xFF (n .value)) overRange (character (n .value) true)) (noCharacter (n .error))
+byteOf n = cond (eqb (n .error) 0) (cond (ltb 0xFF (n .value)) outOfRange (character (n .value) true)) (noCharacter (n .error))
 
--- a code by its digits; a surrogate is no code point
+-- a code by its digits
 unfoldable pub codePointOf : EscapeDigits → Meaning
-codePointOf n =
-    cond (eqb (n .error) 0)
-    (cond (ltb 0x10FFFF (n .value)) overRange (cond (between 0xD800 (n .value) 0xDFFF) (noCharacter NO-CODE-POINT) (character (n .value) false)))
-    (noCharacter (n .error))
+codePointOf n = cond (eqb (n .error) 0) (cond (isScalar (n .value)) (character (n .value) false) outOfRange) (noCharacter (n .error))
 
 -- one that is not read, for an error
 abbrev pub unreadEscape : ℕ → Escape

@@ -5,12 +5,12 @@ use crate::escape_digits::EscapeDigits;
 use crate::escape_digits::digits_at;
 ghost use mathlib.Core.Path.{_≡_};
 ghost use lib.ListN.{drop};
-ghost use Rattle.utf8.specs.Chars.{chars};
+ghost use Rattle.utf8.specs.Chars.{isScalar, chars};
 ghost use Rattle.escapes.specs.Answers.{meaningOf, says};
 ghost use Rattle.escapes.specs.Escape.{letter, following, byteOf, codePointOf, unreadEscape, singleEscape, octalEscape, hexEscape, escapeOf};
 
-// The error of an escape whose value is above its range: none.
-const OVER_RANGE: u8 = 0;
+// The error of digits whose number is out of range: above it, or a surrogate.
+const OUT_OF_RANGE: u8 = errors::NO_CODE_POINT;
 
 // The code that a letter, or a backslash, gives after a backslash; 0 for any other byte.
 fn letter_code(b: u8) -> u8
@@ -39,9 +39,21 @@ fn byte_of(n: EscapeDigits) -> Given
     }
     let code = n.value;
     if 0xFF < code {
-        return Given::Bad { error: OVER_RANGE };
+        return Given::Bad {
+            error: OUT_OF_RANGE,
+        };
     }
     Given::Value { code, byte: true }
+}
+
+// Is a code a Unicode scalar value: no surrogate, and not above 10FFFF?
+fn is_scalar(code: u32) -> bool
+    ensures { λ r. ⌜ r ≡ isScalar code ⌝ }
+{
+    if code < 0xD800 {
+        return true;
+    }
+    0xE000 <= code && code <= 0x10FFFF
 }
 
 // What digits give that stand for a code.
@@ -53,15 +65,9 @@ fn code_of(n: EscapeDigits) -> Given
         return Given::Bad { error };
     }
     let code = n.value;
-    if 0x10FFFF < code {
-        return Given::Bad { error: OVER_RANGE };
-    }
-    if code < 0xD800 {
-        return Given::Value { code, byte: false };
-    }
-    if code < 0xE000 {
+    if !is_scalar(code) {
         return Given::Bad {
-            error: errors::NO_CODE_POINT,
+            error: OUT_OF_RANGE,
         };
     }
     Given::Value { code, byte: false }

@@ -1,4 +1,4 @@
--- Words and operators are never of the kinds EOF and STRING: these stand in neither table.
+-- Words and operators are never of the kinds EOF and STRING, and words never ILLEGAL: these stand in neither table.
 use Prim.Native.Nat.{ℕ}
 use mathlib.Core.Bool.{Bool, not}
 use mathlib.Core.List.{List}
@@ -42,6 +42,10 @@ word-known word = named-other EOF (λ e. omega arith) word keywords tt
 pub word-no-string : (word : List ℕ) → identToken word ≢ STRING
 unfolding keywords
 word-no-string word = named-other STRING (λ e. omega arith) word keywords tt
+
+pub word-legal : (word : List ℕ) → identToken word ≢ ILLEGAL
+unfolding keywords
+word-legal word = named-other ILLEGAL (λ e. omega arith) word keywords tt
 
 pub operator-known : (r : List Char) → Known (operatorOf r .kind)
 unfolding operators

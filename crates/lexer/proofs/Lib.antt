@@ -4,6 +4,7 @@ pub mod Known
 pub mod Fine
 pub mod Rules
 pub mod Laws
+pub mod ErrorLaw
 pub mod Said
 pub mod Ascii
 pub mod Ways

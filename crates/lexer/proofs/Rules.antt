@@ -151,7 +151,7 @@ module _ (m : Bool) (c d : Char) (r t : List Char) (k : c .code ≢ 10) (j : d .
 -- ---- stray characters and operators
 fine-illegal : (m : Bool) (n : ℕ) (r t : List Char) → 0 < n → n ≤ length r → (Ends r → n < length r) → Fine m r (lexIllegal m n r) (lexIllegal m n (r ++ t))
 fine-illegal m n r t some b l =
-    fine-reads m r n _ _ (reads-shown ILLEGAL n _ 0 m (λ e. omega arith)) some b (λ h s. (rw (take-append-le n r t b), λ _. l h))
+    fine-reads m r n _ _ (reads-shown ILLEGAL n _ _ m (λ e. omega arith)) some b (λ h s. (rw (take-append-le n r t b), λ _. l h))
 
 pub fine-operator : (m : Bool) (c : Char) (r t : List Char) → c .code ≢ 10 → Fine m (c ∷ r) (lexOperator m (c ∷ r)) (lexOperator m (c ∷ (r ++ t)))
 unfolding lexOperator

@@ -31,11 +31,10 @@ use Rattle.operators.specs.Longest.{begins, operatorOf}
 use Rattle.operators.proofs.Bounds.{operator-bound, longest-ind}
 use Rattle.lexer.specs.declared.lexed.Text.the-variants.{Empty, AsRead}
 use Rattle.lexer.specs.declared.lexed.Value.the-variants.{Empty as NoValue}
-use Rattle.lexer.specs.declared.lexed.Lexed.{Lexed}
 use Rattle.lexer.specs.Lexeme.{shown, bare}
 use Rattle.lexer.specs.Words.{wordLexeme, lexWord}
 use Rattle.lexer.specs.Lex.{lexIllegal, lexOperator}
-use Rattle.lexer.specs.Made.{madeAt, shownAt}
+use Rattle.lexer.specs.Made.{answerWith, madeAt, shownAt, strayAt}
 use Rattle.lexer.specs.Making.{isNumber, isRaw, textWay}
 use Rattle.lexer.specs.Placed.{textDiffersIn, placed, said}
 use Rattle.lexer.proofs.Known.{word-no-string, operator-no-string}
@@ -66,10 +65,10 @@ module _ (s : List ℕ) (at end n kind : ℕ) (mark : Bool) (a : Ascii n (chars 
         valueDiffers = rw (ne-eqb kind STRING k);
       })
 
-  pub shown-said : 0 < n → eqb kind COMMENT ≡ false → isNumber (take n (chars (drop at s))) ≡ false → isRaw (take n (chars (drop at s))) ≡ false
-      → said s at (shownAt kind at end mark) ≡ placed s at (shown kind n (encoded (take n (chars (drop at s)))) 0 mark)
+  pub shown-said : (error : ℕ) → 0 < n → eqb kind COMMENT ≡ false → isNumber (take n (chars (drop at s))) ≡ false → isRaw (take n (chars (drop at s))) ≡ false
+      → said s at (answerWith error kind at end false mark AsRead NoValue (end - at)) ≡ placed s at (shown kind n (encoded (take n (chars (drop at s)))) error mark)
   unfolding said placed same
-  shown-said some no-comment no-number no-raw =
+  shown-said error some no-comment no-number no-raw =
       let f = ascii-facts n s at a in
       let cs = take n (chars (drop at s)) in
       let text = encoded cs in
@@ -79,7 +78,7 @@ module _ (s : List ℕ) (at end n kind : ℕ) (mark : Bool) (a : Ascii n (chars 
         end = rw (f .width) e;
         lfs = sym (f .lfs);
         strays = sym (f .strays);
-        textMaking = way-read cs (shown kind n text 0 mark) (rw (f .size) some) no-number no-raw no-comment;
+        textMaking = way-read cs (shown kind n text error mark) (rw (f .size) some) no-number no-raw no-comment;
         valueMaking = rw (ne-eqb kind STRING k);
         textLength = rw (read, f .size) (add-zero n);
         valueLength = refl;
@@ -122,7 +121,7 @@ module _ (s : List ℕ) (at end kind : ℕ) (e : end ≡ at + wordLen (chars (dr
   unfolding n word
   identifier-said l i =
       let w = word-starts (chars (drop at s)) (test-next s at isLetter letter-high ∙ l) in
-      shown-said s at end n kind true (word-plain (chars (drop at s))) e no-string (w .0) (rw i) (w .1) (w .2)
+      shown-said s at end n kind true (word-plain (chars (drop at s))) e no-string 0 (w .0) (rw i) (w .1) (w .2)
       ∙ ap (placed s at) (ap (λ k. shown k n word 0 true) word-kind ∙ identifier-is n word (sym word-kind ∙ i))
 
   pub keyword-said : kind ≢ IDENT → said s at (madeAt kind at end (setsMark kind) Empty NoValue) ≡ placed s at (lexWord (chars (drop at s)))
@@ -174,26 +173,6 @@ module _ (s : List ℕ) (at : ℕ) (mark : Bool) (o : Operator) (is : o ≡ oper
       (bare-said s at (at + o .len) (o .len) (o .kind) (setsMark (o .kind)) (rw is (operator-plain r)) refl (rw is (operator-no-string r)))
 
 -- ---- one character that starts no token
-abbrev pub illegalAt : ℕ → ℕ → Bool → Bool → Lexed
-illegalAt at width mark stray =
-    record {
-      end = at + width;
-      chars = 1;
-      lfs = 0;
-      strays = cond stray 1 0;
-      kind = ILLEGAL;
-      inserted = false;
-      mark = mark;
-      error = 0;
-      code = 0;
-      text = AsRead;
-      value = NoValue;
-      «text_bytes» = at + width - at;
-      «value_bytes» = 0;
-      «text_differs» = stray;
-      «value_differs» = false;
-    }
-
 module _ (s : List ℕ) (at : ℕ) (h : at < length s) where
   some : 0 < length (drop at s)
   some = omega (arith, length-drop at s)
@@ -220,7 +199,7 @@ module _ (s : List ℕ) (at : ℕ) (h : at < length s) where
         way-read (take 1 r) (lexIllegal mark 1 r) (rw (e, append-nil, stray-there s at h) (omega (arith, first-least (drop at s))))
         (rw (e, test-there s at isDecimal decimal-high h, no-digit, and-false)) (rw (e, code-there s at 96 h (lit< tt)) no-quote) refl
 
-    first-said : said s at (illegalAt at (firstChar (drop at s) .width) mark (isStray (firstChar (drop at s)))) ≡ placed s at (lexIllegal mark 1 (chars (drop at s)))
+    first-said : said s at (strayAt at (firstChar (drop at s) .width) mark (isStray (firstChar (drop at s)))) ≡ placed s at (lexIllegal mark 1 (chars (drop at s)))
     unfolding said placed same
     first-said =
         let f = firstChar (drop at s) in
@@ -240,5 +219,5 @@ module _ (s : List ℕ) (at : ℕ) (h : at < length s) where
         })
 
     pub illegal-said : (c : Char) (stray : Bool) → c ≡ charAt s at → isStray c ≡ stray
-        → said s at (illegalAt at (c .width) mark stray) ≡ placed s at (lexIllegal mark 1 (chars (drop at s)))
+        → said s at (strayAt at (c .width) mark stray) ≡ placed s at (lexIllegal mark 1 (chars (drop at s)))
     illegal-said c stray is t = rw (← t, is ∙ charAt-in s at h) first-said

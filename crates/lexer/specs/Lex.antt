@@ -9,6 +9,7 @@ use Rattle.utf8.specs.declared.Char.{Char}
 use Rattle.utf8.specs.Chars.{peek, encoded}
 use Rattle.kinds.specs.Kinds.{ILLEGAL, EOF}
 use Rattle.kinds.specs.Table.{setsMark}
+use Rattle.errors.specs.Numbers.{NO-TOKEN}
 use Rattle.digits.specs.Digit.{isDecimal}
 use Rattle.words.specs.Word.{isLetter}
 use Rattle.blanks.specs.Blank.{skip}
@@ -18,10 +19,10 @@ use Rattle.lexer.specs.Words.{lexWord, lexNumber}
 use Rattle.lexer.specs.Quotes.{lexString, lexChar, lexRaw}
 use Rattle.lexer.specs.Comments.{lexComment}
 
--- "`..` without a third dot, or any other single character: ILLEGAL, mark kept. No error is
--- recorded."
+-- "`..` without a third dot, or any other single character: ILLEGAL, mark kept." It "records a new
+-- error 14"
 abbrev pub lexIllegal : Bool → ℕ → List Char → Lexeme
-lexIllegal mark n r = shown ILLEGAL n (encoded (take n r)) 0 mark
+lexIllegal mark n r = shown ILLEGAL n (encoded (take n r)) NO-TOKEN mark
 
 -- "Operators otherwise: the longest one"; where there is none, a stray character
 unfoldable pub lexOperator : Bool → List Char → Lexeme

@@ -3,6 +3,7 @@ pub mod Words
 pub mod Quotes
 pub mod Comments
 pub mod Lex
+pub mod ErrorLaw
 pub mod Making
 pub mod Placed
 pub mod Made

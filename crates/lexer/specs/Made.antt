@@ -2,11 +2,12 @@
 use Prim.Native.Nat.{ℕ, _+_, _-_, _<_}
 pub use Prim.Native.Char.{code}
 use mathlib.Core.Path.{_≡_}
-use mathlib.Core.Bool.{Bool, true, false, not, _||_}
+use mathlib.Core.Bool.{Bool, true, false, cond, not, _||_}
 use mathlib.Core.List.{List}
 use lib.Dec.{eqb}
 use lib.ListN.{length, getD}
-use Rattle.kinds.specs.Kinds.{SEMICOLON}
+use Rattle.kinds.specs.Kinds.{ILLEGAL, SEMICOLON}
+use Rattle.errors.specs.Numbers.{NO-TOKEN}
 use Rattle.digits.specs.Digit.{isDecimal}
 use Rattle.numbers.specs.declared.Spelling.{Spelling}
 use Rattle.numbers.specs.declared.Spelling.the-variants.{AsRead as Same, LowerPrefix, OctalPrefix, LowerExponent}
@@ -22,9 +23,9 @@ use Rattle.lexer.specs.declared.lexed.Lexed.{Lexed}
 abbrev pub StartsOther : List ℕ → ℕ → Type 0
 StartsOther s at = (at < length s) × (eqb (getD s at 0) (code "\n") ≡ false) × (isDecimal (getD s at 0) ≡ false) × (eqb (getD s at 0) (code "`") ≡ false)
 
--- a token with all that may differ between tokens of ASCII characters
-abbrev pub answer : ℕ → ℕ → ℕ → Bool → Bool → Text → Value → ℕ → Lexed
-answer kind at end inserted mark text value bytes =
+-- a token with all that may differ between tokens of ASCII characters, its error first
+abbrev pub answerWith : ℕ → ℕ → ℕ → ℕ → Bool → Bool → Text → Value → ℕ → Lexed
+answerWith error kind at end inserted mark text value bytes =
     record {
       end = end;
       chars = end - at;
@@ -33,7 +34,7 @@ answer kind at end inserted mark text value bytes =
       kind = kind;
       inserted = inserted;
       mark = mark;
-      error = 0;
+      error = error;
       code = 0;
       text = text;
       value = value;
@@ -43,11 +44,39 @@ answer kind at end inserted mark text value bytes =
       «value_differs» = false;
     }
 
+-- without an error
+abbrev pub answer : ℕ → ℕ → ℕ → Bool → Bool → Text → Value → ℕ → Lexed
+answer kind at end inserted mark text value bytes = answerWith 0 kind at end inserted mark text value bytes
+
 abbrev pub madeAt : ℕ → ℕ → ℕ → Bool → Text → Value → Lexed
 madeAt kind at end mark text value = answer kind at end false mark text value 0
 
 abbrev pub shownAt : ℕ → ℕ → ℕ → Bool → Lexed
 shownAt kind at end mark = answer kind at end false mark AsRead NoValue (end - at)
+
+abbrev pub noTokenAt : ℕ → ℕ → Bool → Lexed
+noTokenAt at end mark = answerWith NO-TOKEN ILLEGAL at end false mark AsRead NoValue (end - at)
+
+-- one character, of so many bytes, that starts no token; it may be a stray byte
+abbrev pub strayAt : ℕ → ℕ → Bool → Bool → Lexed
+strayAt at width mark stray =
+    record {
+      end = at + width;
+      chars = 1;
+      lfs = 0;
+      strays = cond stray 1 0;
+      kind = ILLEGAL;
+      inserted = false;
+      mark = mark;
+      error = NO-TOKEN;
+      code = 0;
+      text = AsRead;
+      value = NoValue;
+      «text_bytes» = at + width - at;
+      «value_bytes» = 0;
+      «text_differs» = stray;
+      «value_differs» = false;
+    }
 
 abbrev pub insertedAt : ℕ → Lexed
 insertedAt at = answer SEMICOLON at at true false Empty NoValue 0

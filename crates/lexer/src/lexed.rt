@@ -3,7 +3,7 @@ ghost use mathlib.Core.Path.{_≡_};
 ghost use Prim.Native.Nat.{_≤_};
 ghost use Rattle.lexer.specs.declared.lexed.Text.the-variants.{Empty};
 ghost use Rattle.lexer.specs.declared.lexed.Value.the-variants.{Empty as NoValue};
-ghost use Rattle.lexer.specs.Made.{madeAt, shownAt, insertedAt};
+ghost use Rattle.lexer.specs.Made.{madeAt, shownAt, noTokenAt, insertedAt};
 
 // How the text of a token is made of the characters read.
 pub enum Text {
@@ -90,6 +90,16 @@ pub(crate) fn shown(kind: u8, at: usize, end: usize, mark: bool) -> Lexed
 {
     let mut x = made(kind, at, end, mark, Text::AsRead, Value::Empty);
     x.text_bytes = end - at;
+    x
+}
+
+// ASCII characters that are no token.
+pub(crate) fn no_token(at: usize, end: usize, mark: bool) -> Lexed
+    requires { ⌜ at ≤ end ⌝ }
+    ensures { λ r. ⌜ r ≡ noTokenAt at end mark ⌝ }
+{
+    let mut x = shown(kinds::ILLEGAL, at, end, mark);
+    x.error = errors::NO_TOKEN;
     x
 }
 

@@ -1,8 +1,8 @@
--- What every number reads: characters that are ASCII and no line feed, as each was tested, and those that its spelling tells of. Its kind is one of four, and if it starts with a decimal digit or a point it reads some character.
+-- What every number reads: characters that are ASCII and no line feed, as each was tested, and those that its spelling tells of. Its kind is one of four, ILLEGAL just where it has an error, and if it starts with a decimal digit or a point it reads some character.
 use Prim.Native.Nat.{ℕ, zero, suc, _+_, _-_, _≤_, _<_}
 use Prim.Native.Char.{code}
 use mathlib.Core.Path.{_≡_, refl, sym, subst, _∙_}
-use mathlib.Core.Bool.{Bool, true, false, _&&_, _||_}
+use mathlib.Core.Bool.{Bool, true, false, cond, _&&_, _||_}
 use mathlib.Core.List.{List, [], _∷_}
 use mathlib.Core.Logic.{_≢_, ⊎-elim}
 use native.Mathlib.Omega.{arith}
@@ -11,9 +11,9 @@ use native.Mathlib.Decide.{decLt}
 use lib.Dec.{T, leb, eqb, lit<, lit≤}
 use lib.ListN.{length, getD, drop}
 use lib.Seq.{drop-drop, getD-drop}
-use borrow.Author.Tests.{eqb-true, lt-ltb}
+use borrow.Author.Tests.{eqb-true, ne-eqb, lt-ltb}
 use Rattle.basics.specs.Between.{between}
-use Rattle.basics.proofs.Choice.{cond-ind, either, between-true, in-between}
+use Rattle.basics.proofs.Choice.{cond-ind, either, between-true, in-between, true-of}
 use Rattle.utf8.specs.declared.Char.{Char}
 use Rattle.utf8.specs.Chars.{ended, peek}
 use Rattle.kinds.specs.Kinds.{ILLEGAL, INT, FLOAT, IMAG}
@@ -26,9 +26,22 @@ use Rattle.numbers.specs.Run.{digitRun, strictRun}
 use Rattle.numbers.specs.Number.{Numeral, afterChars, exponentDigits, exponent, finish, fraction, decimalRest, decimal, prefixed, bareZero, leadingZero, withoutI, number}
 use Rattle.numbers.proofs.Runs.{Plain, plain-none, plain-more, plain-within, run-plain, strict-plain}
 
--- the kinds that a number may have
-abbrev pub isNumeric : ℕ → Bool
-isNumeric kind = among kind (ILLEGAL ∷ INT ∷ FLOAT ∷ IMAG ∷ [])
+-- the kinds that a number may have without an error
+abbrev isGood : ℕ → Bool
+isGood kind = among kind (INT ∷ FLOAT ∷ IMAG ∷ [])
+
+-- with an error it is ILLEGAL
+abbrev isNumeric : ℕ → ℕ → Bool
+isNumeric kind error = cond (eqb error 0) (isGood kind) (eqb kind ILLEGAL)
+
+numeric-among : (kind error : ℕ) → T (isNumeric kind error) → T (among kind (ILLEGAL ∷ INT ∷ FLOAT ∷ IMAG ∷ []))
+numeric-among kind error t = go (eqb error 0) (eqb kind ILLEGAL) t
+  where
+    go : (none bad : Bool) → T (cond none (isGood kind) bad) → T (bad || isGood kind)
+    go true true t = tt
+    go true false t = t
+    go false true t = tt
+    go false false t = absurd t
 
 -- what a spelling tells of the first n characters: a prefix in upper case that is no E, a 0, an E
 abbrev pub Spelled : Spelling → List Char → ℕ → Type 0
@@ -82,7 +95,7 @@ module _ (r : List Char) where
     pub some : Starts r → 0 < n
 
   abbrev Read : Numeral → Type 0
-  Read x = Begun (x .spelling) (x .len) × T (isNumeric (x .kind))
+  Read x = Begun (x .spelling) (x .len) × T (isNumeric (x .kind) (x .error))
 
   -- m characters more
   more : (sp : Spelling) (n m : ℕ) → Begun sp n → Plain m (drop n r) → Begun sp (n + m)
@@ -114,7 +127,7 @@ module _ (r : List Char) where
             (either (eqb (peek (drop n r)) (code "+")))
 
   -- ---- the rest of a decimal number
-  finish-read : (kind : ℕ) → T (isNumeric kind) → (n : ℕ) → Begun AsRead n → Read (afterChars n (finish kind (drop n r)))
+  finish-read : (kind : ℕ) → T (isGood kind) → (n : ℕ) → Begun AsRead n → Read (afterChars n (finish kind (drop n r)))
   unfolding finish
   finish-read kind k n b =
       cond-ind (λ x. Read (afterChars n x)) (eqb (peek (drop n r)) (code "e")) _ _
@@ -145,13 +158,13 @@ module _ (r : List Char) where
       cond-ind (λ x. Read (afterChars n x)) (eqb (peek (drop n r)) (code ".")) _ _ (point-read n b) (λ _. finish-read INT tt n b)
 
   -- ---- a number with a prefix
-  prefixed-read : (base error : ℕ) (sp : Spelling) → base ≤ 16 → (n : ℕ) → Begun sp n → Read (afterChars n (prefixed base error sp (drop n r)))
+  prefixed-read : (base error : ℕ) (sp : Spelling) → T (isNumeric ILLEGAL error) → base ≤ 16 → (n : ℕ) → Begun sp n → Read (afterChars n (prefixed base error sp (drop n r)))
   unfolding prefixed
-  prefixed-read base error sp h n b =
+  prefixed-read base error sp k h n b =
       let d = digitRun base false (drop n r) in
       let o = more sp n (d .len) b (run-plain base h false (drop n r)) in
       cond-ind (λ x. Read (afterChars n x)) (d .misplaced) _ _ (λ _. (o, tt))
-      (λ _. cond-ind (λ x. Read (afterChars n x)) (eqb (d .len) 0 || (leb base 8 && isDecimal (peek (drop (d .len) (drop n r))))) _ _ (λ _. (o, tt)) (λ _. (o, tt)))
+      (λ _. cond-ind (λ x. Read (afterChars n x)) (eqb (d .len) 0 || (leb base 8 && isDecimal (peek (drop (d .len) (drop n r))))) _ _ (λ _. (o, k)) (λ _. (o, tt)))
 
   -- ---- from the first character on, which is no point
   module _ (no-point : eqb (peek r) (code ".") ≡ false) where
@@ -170,22 +183,22 @@ module _ (r : List Char) where
       unfolding bareZero
       bare-read =
           cond-ind Read (isDecimal (peek (drop 1 r))) _ _
-          (λ _. prefixed-read 8 BAD-OCTAL OctalPrefix (lit≤ tt) 1 (record { plain = first; spelled = lit≤ tt; some = λ _. lit< tt })) (λ _. decimal-read)
+          (λ _. prefixed-read 8 BAD-OCTAL OctalPrefix tt (lit≤ tt) 1 (record { plain = first; spelled = lit≤ tt; some = λ _. lit< tt })) (λ _. decimal-read)
 
-      letter-read : (x base error : ℕ) (sp : Spelling) → 0 < x → x < 0x80 → x ≢ code "\n" → base ≤ 16 → (getD r 1 ended .code ≡ x → Spelled sp r 2) → eqb (peek (drop 1 r)) x ≡ true
+      letter-read : (x base error : ℕ) (sp : Spelling) → T (isNumeric ILLEGAL error) → 0 < x → x < 0x80 → x ≢ code "\n" → base ≤ 16 → (getD r 1 ended .code ≡ x → Spelled sp r 2) → eqb (peek (drop 1 r)) x ≡ true
           → Read (afterChars 2 (prefixed base error sp (drop 2 r)))
-      letter-read x base error sp l h k b s e =
-          prefixed-read base error sp b 2 (record { plain = plain-add 1 1 r first (plain-one (drop 1 r) x l h k e); spelled = s (sym (peek-at 1 r) ∙ eqb-true _ _ e); some = λ _. lit< tt })
+      letter-read x base error sp t l h k b s e =
+          prefixed-read base error sp t b 2 (record { plain = plain-add 1 1 r first (plain-one (drop 1 r) x l h k e); spelled = s (sym (peek-at 1 r) ∙ eqb-true _ _ e); some = λ _. lit< tt })
 
       zero-read : Read (leadingZero r)
       unfolding leadingZero
       zero-read =
-          cond-ind Read (eqb (peek (drop 1 r)) (code "x")) _ _ (letter-read (code "x") 16 BAD-HEXADECIMAL AsRead (lit< tt) (lit< tt) (λ z. omega arith) (lit≤ tt) (λ _. tt))
-          (λ _. cond-ind Read (eqb (peek (drop 1 r)) (code "X")) _ _ (letter-read (code "X") 16 BAD-HEXADECIMAL LowerPrefix (lit< tt) (lit< tt) (λ z. omega arith) (lit≤ tt) (λ z. (lit≤ tt, rw z, λ e. omega (arith, z, e))))
-          (λ _. cond-ind Read (eqb (peek (drop 1 r)) (code "o")) _ _ (letter-read (code "o") 8 BAD-OCTAL AsRead (lit< tt) (lit< tt) (λ z. omega arith) (lit≤ tt) (λ _. tt))
-          (λ _. cond-ind Read (eqb (peek (drop 1 r)) (code "O")) _ _ (letter-read (code "O") 8 BAD-OCTAL LowerPrefix (lit< tt) (lit< tt) (λ z. omega arith) (lit≤ tt) (λ z. (lit≤ tt, rw z, λ e. omega (arith, z, e))))
-          (λ _. cond-ind Read (eqb (peek (drop 1 r)) (code "b")) _ _ (letter-read (code "b") 2 BAD-BINARY AsRead (lit< tt) (lit< tt) (λ z. omega arith) (lit≤ tt) (λ _. tt))
-          (λ _. cond-ind Read (eqb (peek (drop 1 r)) (code "B")) _ _ (letter-read (code "B") 2 BAD-BINARY LowerPrefix (lit< tt) (lit< tt) (λ z. omega arith) (lit≤ tt) (λ z. (lit≤ tt, rw z, λ e. omega (arith, z, e)))) (λ _. bare-read))))))
+          cond-ind Read (eqb (peek (drop 1 r)) (code "x")) _ _ (letter-read (code "x") 16 BAD-HEXADECIMAL AsRead tt (lit< tt) (lit< tt) (λ z. omega arith) (lit≤ tt) (λ _. tt))
+          (λ _. cond-ind Read (eqb (peek (drop 1 r)) (code "X")) _ _ (letter-read (code "X") 16 BAD-HEXADECIMAL LowerPrefix tt (lit< tt) (lit< tt) (λ z. omega arith) (lit≤ tt) (λ z. (lit≤ tt, rw z, λ e. omega (arith, z, e))))
+          (λ _. cond-ind Read (eqb (peek (drop 1 r)) (code "o")) _ _ (letter-read (code "o") 8 BAD-OCTAL AsRead tt (lit< tt) (lit< tt) (λ z. omega arith) (lit≤ tt) (λ _. tt))
+          (λ _. cond-ind Read (eqb (peek (drop 1 r)) (code "O")) _ _ (letter-read (code "O") 8 BAD-OCTAL LowerPrefix tt (lit< tt) (lit< tt) (λ z. omega arith) (lit≤ tt) (λ z. (lit≤ tt, rw z, λ e. omega (arith, z, e))))
+          (λ _. cond-ind Read (eqb (peek (drop 1 r)) (code "b")) _ _ (letter-read (code "b") 2 BAD-BINARY AsRead tt (lit< tt) (lit< tt) (λ z. omega arith) (lit≤ tt) (λ _. tt))
+          (λ _. cond-ind Read (eqb (peek (drop 1 r)) (code "B")) _ _ (letter-read (code "B") 2 BAD-BINARY LowerPrefix tt (lit< tt) (lit< tt) (λ z. omega arith) (lit≤ tt) (λ z. (lit≤ tt, rw z, λ e. omega (arith, z, e)))) (λ _. bare-read))))))
 
   pub without-read : Read (withoutI r)
   unfolding withoutI
@@ -214,8 +227,14 @@ module _ (r : List Char) where
   pub number-within : number r .len ≤ length r
   number-within = plain-within (number r .len) r (number-read .0 .plain)
 
-  pub number-kind : (kind : ℕ) → isNumeric kind ≡ false → number r .kind ≢ kind
-  number-kind kind f e = subst T f (subst (λ k. T (isNumeric k)) e (number-read .1))
+  pub number-kind : (kind : ℕ) → among kind (ILLEGAL ∷ INT ∷ FLOAT ∷ IMAG ∷ []) ≡ false → number r .kind ≢ kind
+  number-kind kind f e = subst T f (subst (λ k. T (among k (ILLEGAL ∷ INT ∷ FLOAT ∷ IMAG ∷ []))) e (numeric-among (number r .kind) (number r .error) (number-read .1)))
+
+  pub number-illegal : number r .kind ≡ ILLEGAL → number r .error ≢ 0
+  number-illegal k e = rw (k, e) at (number-read .1)
+
+  pub number-error : number r .error ≢ 0 → number r .kind ≡ ILLEGAL
+  number-error e = eqb-true (number r .kind) ILLEGAL (true-of _ (rw (ne-eqb (number r .error) 0 e) at (number-read .1)))
 
   pub number-some : Starts r → 0 < number r .len
   number-some s = number-read .0 .some s

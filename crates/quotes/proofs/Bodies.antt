@@ -1,9 +1,9 @@
 -- Laws of a body over its characters: what is skipped, and the size of its value.
 use Prim.Native.Nat.{ℕ, zero, suc, _+_, _*_, _≤_}
 use mathlib.Core.Path.{_≡_, refl, sym}
-use mathlib.Core.Bool.{true, false, cond, false≢true}
+use mathlib.Core.Bool.{true, false, cond, true≢false, false≢true}
 use mathlib.Core.List.{List, [], _∷_}
-use mathlib.Core.Logic.{⊎-elim}
+use mathlib.Core.Logic.{_≢_, ⊎-elim}
 use native.Mathlib.Omega.{arith}
 use native.Mathlib.Nat.{zero-add, suc-add}
 use lib.Dec.{eqb, lit≤}
@@ -12,9 +12,11 @@ use borrow.Author.Tests.{eqb-true}
 use Rattle.basics.proofs.Choice.{cond-ind, either, and-split}
 use Rattle.utf8.specs.declared.Char.{Char}
 use Rattle.utf8.specs.Chars.{octets, encode, isStray, widths}
+use Rattle.errors.specs.Numbers.{OPEN-QUOTE}
 use Rattle.escapes.specs.Answers.{Meaning, character, noCharacter, bytesOf}
 use Rattle.escapes.specs.Escape.{escapeOf}
-use Rattle.quotes.specs.Body.{Body, plain, escape, bodyFrom, body}
+use Rattle.escapes.proofs.Meanings.{HasError, escape-error}
+use Rattle.quotes.specs.Body.{Body, ends, plain, escape, bodyFrom, body}
 
 pub body-skip : (quote k : ℕ) (r : List Char) → bodyFrom quote k r ≡ body quote (drop k r)
 unfolding bodyFrom
@@ -57,24 +59,30 @@ strays-fit quote (c ∷ r) zero =
     (λ _. cond-ind Roomy (eqb (c .code) 92) _ _
     (λ _. escape-size _ (escapeOf quote r .meaning) (bodyFrom quote (escapeOf quote r .len) r) (strays-fit quote r (escapeOf quote r .len))) (λ _. plain-size c (bodyFrom quote 0 r) (strays-fit quote r 0))))
 
--- ---- a closed body has no error
+-- ---- a body is closed or has an error, and not both
 abbrev Sound : Body → Type 0
-Sound b = b .closed ≡ true → b .error ≡ 0
+Sound b = (b .closed ≡ true → b .error ≡ 0) × (b .closed ≡ false → b .error ≢ 0)
 
-escape-sound : (n : ℕ) (g : Meaning) (b : Body) → Sound b → Sound (escape n g b)
-escape-sound n (noCharacter error) b f e = absurd (false≢true e)
-escape-sound n (character code byte) b f e = f e
+sound-open : (n error : ℕ) → error ≢ 0 → Sound (ends n false error)
+sound-open n error e = (λ c. absurd (false≢true c), λ _. e)
+
+escape-sound : (n : ℕ) (g : Meaning) (b : Body) → HasError g → Sound b → Sound (escape n g b)
+escape-sound n (noCharacter error) b e s = sound-open n error e
+escape-sound n (character code byte) b e s = s
 
 from-sound : (quote : ℕ) (r : List Char) (k : ℕ) → Sound (bodyFrom quote k r)
 unfolding bodyFrom
-from-sound quote [] k = λ e. absurd (false≢true e)
+from-sound quote [] k = sound-open 0 OPEN-QUOTE (λ e. omega arith)
 from-sound quote (c ∷ r) (suc k) = from-sound quote r k
 from-sound quote (c ∷ r) zero =
     let n = escapeOf quote r .len in
-    cond-ind Sound (eqb (c .code) quote) _ _ (λ _ e. refl)
-    (λ _. cond-ind Sound (eqb (c .code) 10) _ _ (λ _ e. absurd (false≢true e))
+    cond-ind Sound (eqb (c .code) quote) _ _ (λ _. (λ _. refl, λ e. absurd (true≢false e)))
+    (λ _. cond-ind Sound (eqb (c .code) 10) _ _ (λ _. sound-open 0 OPEN-QUOTE (λ e. omega arith))
     (λ _. cond-ind Sound (eqb (c .code) 92) _ _
-    (λ _. escape-sound (suc n) (escapeOf quote r .meaning) (bodyFrom quote n r) (from-sound quote r n)) (λ _. from-sound quote r 0)))
+    (λ _. escape-sound (suc n) (escapeOf quote r .meaning) (bodyFrom quote n r) (escape-error quote r) (from-sound quote r n)) (λ _. from-sound quote r 0)))
 
 pub closed-sound : (quote : ℕ) (r : List Char) → body quote r .closed ≡ true → body quote r .error ≡ 0
-closed-sound quote r = from-sound quote r 0
+closed-sound quote r = from-sound quote r 0 .0
+
+pub open-error : (quote : ℕ) (r : List Char) → body quote r .closed ≡ false → body quote r .error ≢ 0
+open-error quote r = from-sound quote r 0 .1

@@ -26,8 +26,8 @@ abbrev left : ℕ → ℕ → Body
 left len error = record { len = len; closed = false; error = error; count = 0; code = 0; value = []; escaped = false; strays = 0 }
 
 pub examples :
-    (string (spelled "\\400\"") ≡ left 4 0)
-    × (string (spelled "\\U00110000\"") ≡ left 10 0)
+    (string (spelled "\\400\"") ≡ left 4 NO-CODE-POINT)
+    × (string (spelled "\\U00110000\"") ≡ left 10 NO-CODE-POINT)
     × (character (spelled "\\uD800'") ≡ left 6 NO-CODE-POINT)
     × (string (spelled "\\'\"") ≡ left 1 UNKNOWN-ESCAPE)
     × (string (spelled "\\xg1\"") ≡ left 2 BAD-ESCAPE)

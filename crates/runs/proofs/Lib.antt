@@ -2,6 +2,7 @@ pub mod Seen
 pub mod Firsts
 pub mod Shown
 pub mod Played
+pub mod Errors
 pub mod Accepted
 pub mod Parts
 pub mod Room

@@ -3,7 +3,7 @@ use Prim.Native.Nat.{ℕ, zero, suc, _+_, _*_, _≤_, _<_}
 use mathlib.Core.Path.{_≡_, refl, sym, ap, _∙_, subst}
 use mathlib.Core.Bool.{Bool, true, false, cond}
 use mathlib.Core.List.{List, [], _∷_, _++_, append-nil}
-use mathlib.Core.Logic.{_⊎_, inl, inr}
+use mathlib.Core.Logic.{_⊎_, inl, inr, ⊎-elim}
 use native.Mathlib.Omega.{arith}
 use lib.Dec.{eqb}
 use lib.ListN.{length, drop, length-append, length-drop}
@@ -28,7 +28,7 @@ use Rattle.reading.proofs.Runs.{run-shift}
 use Rattle.reading.proofs.Ending.{reading-path}
 use Rattle.state.specs.declared.state.State.{State}
 use Rattle.state.specs.Fits.{fits}
-use Rattle.scanner.specs.Scan.{view, tokenStart, toArea, tokenOf, refusalOf, ScanLeft, gaveBy, unless, scanBy, scanOf}
+use Rattle.scanner.specs.Scan.{view, tokenStart, toArea, tokenOf, refusalOf, ScanLeft, refusedBy, gaveBy, unless, scanBy, scanOf}
 use Rattle.scanner.proofs.Scans.{Held as Fitting, held}
 use Rattle.scanner.proofs.Fitting.{passes}
 use Rattle.runs.specs.Calls.{Held, call, left, Seen, seenIn, given, play, tokens}
@@ -51,14 +51,14 @@ string-moves m x (inr a) e = absurd (omega (arith, a .4))
 
 -- ---- one call
 module _ (src area : List ℕ) (h : Held) where
-  abbrev s : State
+  abbrev pub s : State
   s = h .state
 
   -- how far the source has been read, the token there and how it stands in the source, and how far the source is read then
-  abbrev r : Reading
+  abbrev pub r : Reading
   r = viewOf src h
 
-  abbrev x : Lexeme
+  abbrev pub x : Lexeme
   x = scanned lex r
 
   abbrev start : ℕ
@@ -67,10 +67,10 @@ module _ (src area : List ℕ) (h : Held) where
   abbrev p : Placed
   p = placed src start x
 
-  abbrev u : Reading
+  abbrev pub u : Reading
   u = next lex (s .size) r
 
-  abbrev gives : ScanLeft
+  abbrev pub gives : ScanLeft
   gives = gaveBy s p (tokenOf (s .base) start r p) u (h .table) (h .list) area
 
   -- nothing, or one scan
@@ -79,7 +79,7 @@ module _ (src area : List ℕ) (h : Held) where
       ((left a ≡ h) × (given src a ≡ []))
       ⊎ ((viewOf src (left a) ≡ u) × (given src a ≡ seenOf src (token (s .base) x r) ∷ []) × (left a .state .base ≡ s .base) × (left a .state .size ≡ s .size))
 
-  view-left : length (u .errors) ≤ roomOf (h .list) → viewOf src (left gives) ≡ u
+  pub view-left : length (u .errors) ≤ roomOf (h .list) → viewOf src (left gives) ≡ u
   unfolding view next after placed scanned
   view-left room =
       reading-path (viewOf src (left gives)) u (place-chars (x .skipped + x .len) src (s .place)) refl refl (take-append-seam (u .lines) _)
@@ -111,16 +111,26 @@ module _ (src area : List ℕ) (h : Held) where
   abbrev refusal : ℕ
   refusal = refusalOf (fits s src (h .table) (h .list)) (s .size) u (length (h .table)) (roomOf (h .list)) (length (toArea p)) (length area)
 
-  did : Did (call src area h)
+  -- a call is refused, or gives the token that is read
+  abbrev Came : ScanLeft → Type 0
+  Came a =
+      ((n : ℕ) × (a ≡ refusedBy (suc n) s (h .table) (h .list) area))
+      ⊎ ((a ≡ gives) × Fitting s src (h .table) (h .list) × (length (u .errors) ≤ roomOf (h .list)))
+
+  pub came : Came (call src area h)
   unfolding call scanOf scanBy scanned next
-  did = go refusal refl
+  came = go refusal refl
     where
-      go : (n : ℕ) → refusal ≡ n → Did (unless n gives s (h .table) (h .list) area)
+      go : (n : ℕ) → refusal ≡ n → Came (unless n gives s (h .table) (h .list) area)
       go zero e =
           let q = passes (fits s src (h .table) (h .list)) (s .size) u (length (h .table)) (roomOf (h .list)) (length (toArea p)) (length area) e in
-          let k = held s src (h .table) (h .list) (q .0) in
-          inr (view-left (q .3), ap (λ (t : Seen). t ∷ []) (seen-left k), refl, refl)
-      go (suc n) e = inl (refl, rw (ne-eqb (suc n) 0 (λ z. omega arith)))
+          inr (refl, held s src (h .table) (h .list) (q .0), q .3)
+      go (suc n) e = inl (n, refl)
+
+  did : Did (call src area h)
+  did =
+      ⊎-elim (λ c. subst Did (sym (c .1)) (inl (refl, rw (ne-eqb (suc (c .0)) 0 (λ z. omega arith)))))
+      (λ c. subst Did (sym (c .0)) (inr (view-left (c .2), ap (λ (t : Seen). t ∷ []) (seen-left (c .1)), refl, refl))) came
 
 -- ---- the first k of a sequence
 firsts-shift : {A : Type 0} (f : ℕ → A) (k : ℕ) → firsts f (suc k) ≡ f 0 ∷ firsts (λ i. f (suc i)) k

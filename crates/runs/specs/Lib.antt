@@ -2,3 +2,4 @@ pub mod Calls
 pub mod Progress
 pub mod Joined
 pub mod Table
+pub mod Errors

@@ -46,7 +46,7 @@ rows =
     row "0X1F" (shownToken INT 0 "0x1F" ∷ shownToken SEMICOLON 4 "" ∷ shownToken EOF 4 "" ∷ []) [] ∷
     row "''" (shownToken ILLEGAL 0 "''" ∷ shownToken SEMICOLON 2 "" ∷ shownToken EOF 2 "" ∷ []) (error 13 2 1 3 ∷ []) ∷
     row "'ab'" (shownToken ILLEGAL 0 "'ab'" ∷ shownToken SEMICOLON 4 "" ∷ shownToken EOF 4 "" ∷ []) (error 13 4 1 5 ∷ []) ∷
-    row "\"\\400\"" (shownToken ILLEGAL 0 "\"\\400" ∷ shownToken ILLEGAL 5 "\"" ∷ shownToken SEMICOLON 6 "" ∷ shownToken EOF 6 "" ∷ []) (error 8 6 1 7 ∷ []) ∷
+    row "\"\\400\"" (shownToken ILLEGAL 0 "\"\\400" ∷ shownToken ILLEGAL 5 "\"" ∷ shownToken SEMICOLON 6 "" ∷ shownToken EOF 6 "" ∷ []) (error 12 5 1 6 ∷ error 8 6 1 7 ∷ []) ∷
     row "x /* c */ r\n" (shownToken IDENT 0 "x" ∷ shownToken COMMENT 2 "/* c */" ∷ shownToken IDENT 10 "r" ∷ shownToken SEMICOLON 11 "" ∷ shownToken EOF 12 "" ∷ []) [] ∷
     row "1__0" (shownToken ILLEGAL 0 "1_" ∷ shownToken IDENT 2 "_0" ∷ shownToken SEMICOLON 4 "" ∷ shownToken EOF 4 "" ∷ []) (error 4 2 1 3 ∷ []) ∷
     row "`\n" (shownToken STRING 0 "`\n" ∷ shownToken SEMICOLON 2 "" ∷ shownToken EOF 2 "" ∷ []) (error 6 2 1 3 ∷ []) ∷

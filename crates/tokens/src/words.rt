@@ -39,12 +39,17 @@ pub(crate) fn error(out: &mut Buffer, waiting: usize, number: usize) -> usize {
         errors::UNKNOWN_ESCAPE => output::bytes(out, waiting, b"unknown escape"),
         errors::CUT_ESCAPE => output::bytes(out, waiting, b"source ends inside an escape"),
         errors::BAD_ESCAPE => output::bytes(out, waiting, b"bad character in an escape"),
-        errors::NO_CODE_POINT => output::bytes(out, waiting, b"escape is not a Unicode code point"),
+        errors::NO_CODE_POINT => output::bytes(
+            out,
+            waiting,
+            b"escape is out of range: not a byte, or not a Unicode code point",
+        ),
         errors::NOT_ONE_CHARACTER => output::bytes(
             out,
             waiting,
             b"character literal must have exactly one character",
         ),
+        errors::NO_TOKEN => output::bytes(out, waiting, b"not a token: a stray character, or '..'"),
         _ => output::bytes(out, waiting, b"unknown error"),
     }
 }

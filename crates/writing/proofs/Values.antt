@@ -17,7 +17,7 @@ use Rattle.escapes.specs.declared.Given.the-variants.{Value, Bad}
 use Rattle.escapes.specs.Answers.{Meaning, character, Escape, meaningOf, bytesOf}
 use Rattle.escapes.specs.Escape.{escapeOf}
 use Rattle.quotes.specs.Body.{Body, escape, bodyFrom, body}
-use Rattle.escapes.proofs.Sizes.{escape-byte}
+use Rattle.escapes.proofs.Meanings.{escape-byte}
 use Rattle.quotes.proofs.Reading.{at-quote, at-lf, at-slash, at-plain}
 
 abbrev value-of : Body → List ℕ

@@ -1,0 +1,78 @@
+-- Every call has the law of specs/Errors.antt: what it reads has the law of `lex`, and it adds the error of what it reads.
+use Prim.Native.Nat.{ℕ, suc, _+_, _≤_}
+use mathlib.Core.Path.{_≡_, refl, sym, ap, _∙_, subst}
+use mathlib.Core.Bool.{cond}
+use mathlib.Core.List.{List, [], _∷_, _++_}
+use mathlib.Core.Logic.{_≢_, inl, inr, ⊎-elim}
+use native.Mathlib.Omega.{arith}
+use lib.Dec.{eqb}
+use lib.ListN.{length}
+use borrow.Author.Tests.{eq-eqb, ne-eqb}
+use Rattle.errors.specs.declared.layout.Error.{Error}
+use Rattle.errors.specs.Errors.{roomOf}
+use Rattle.lexer.specs.ErrorLaw.{ErrorLaw}
+use Rattle.lexer.specs.Placed.{placed}
+use Rattle.lexer.proofs.ErrorLaw.{lex-errors}
+use Rattle.reading.specs.Reading.{Reading, errorAt, newErrors, after}
+use Rattle.reading.specs.Run.{scanned, next}
+use Rattle.scanner.specs.Scan.{view, refusedBy}
+use Rattle.scanner.proofs.Scans.{errors-after}
+use Rattle.runs.specs.Calls.{Held, call, left, errorsIn}
+use Rattle.runs.specs.Errors.{Adds, CallErrors}
+use Rattle.runs.proofs.Firsts.{last-apart}
+use Rattle.runs.proofs.Played.{r, x, u, gives, view-left, came}
+
+module _ (src area : List ℕ) (h : Held) where
+  -- the error of what is read, where it has one
+  abbrev found : Error
+  found = errorAt (x src area h .error) (u src area h .offset) (u src area h .lines)
+
+  -- what is read has the law
+  law : ErrorLaw (x src area h .kind) (x src area h .error)
+  unfolding scanned
+  law = lex-errors (r src area h .mark) (r src area h .rest)
+
+  refused : (n : ℕ) → CallErrors src h (refusedBy (suc n) (h .state) (h .table) (h .list) area)
+  refused n =
+      record {
+        illegal-has-error = λ e. absurd (omega arith);
+        illegal-or-refused = λ _. inl (λ e. omega arith);
+        error-has-cause = λ e a. absurd (omega (arith, a .count));
+      }
+
+  -- ---- a call that gives a token: the errors after it, and how many they are
+  after-it : u src area h .errors ≡ errorsIn h ++ newErrors (x src area h .error) (u src area h .offset) (u src area h .lines)
+  unfolding view next after
+  after-it = refl
+
+  counted : gives src area h .answer .state .errors ≡ h .state .errors + cond (eqb (x src area h .error) 0) 0 1
+  counted = ap length after-it ∙ errors-after (x src area h .error) (u src area h .offset) (h .state .errors) (h .list) (u src area h .lines)
+
+  module _ (room : length (u src area h .errors) ≤ roomOf (h .list)) where
+    listed : x src area h .error ≢ 0 → errorsIn (left (gives src area h)) ≡ errorsIn h ++ (found ∷ [])
+    unfolding view
+    listed e = ap (λ (v : Reading). v .errors) (view-left src area h room) ∙ after-it ∙ rw (ne-eqb (x src area h .error) 0 e)
+
+    adds : x src area h .error ≢ 0 → Adds h (gives src area h) found
+    adds e = record { count = counted ∙ rw (ne-eqb (x src area h .error) 0 e) (omega arith); list = listed e; place = refl }
+
+    -- an error was added, so what is read has one, and it is the one that was added
+    read-has : (e : Error) → Adds h (gives src area h) e → x src area h .error ≢ 0
+    read-has e a z = let same = rw (eq-eqb (x src area h .error) 0 z) at counted in omega (arith, a .count, same)
+
+    is-found : (e : Error) → Adds h (gives src area h) e → e ≡ found
+    is-found e a = last-apart (errorsIn h) (errorsIn h) e found refl (sym (a .list) ∙ listed (read-has e a)) .1
+
+    gave : CallErrors src h (gives src area h)
+    unfolding placed
+    gave =
+        record {
+          illegal-has-error = λ k. (found, adds (law .illegal-has-error k));
+          illegal-or-refused = λ k. inr (found, adds (law .illegal-has-error k));
+          error-has-cause = λ e a. rw (is-found e a) (law .error-has-cause (read-has e a));
+        }
+
+pub call-errors : (src area : List ℕ) (h : Held) → CallErrors src h (call src area h)
+call-errors src area h =
+    ⊎-elim (λ c. subst (CallErrors src h) (sym (c .1)) (refused src area h (c .0)))
+    (λ c. subst (CallErrors src h) (sym (c .0)) (gave src area h (c .2))) (came src area h)
