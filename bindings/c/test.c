@@ -41,10 +41,15 @@ static uint8_t start(struct run *r, const char *src)
     return open_at(r, 0, r->src_len);
 }
 
-static uint8_t scan(struct run *r)
+static uint8_t scan_to(struct run *r, size_t *list, size_t list_len)
 {
     return scanner_scan(r->src, r->src_len, r->state, SCANNER_STATE_LEN, r->table, r->table_len,
-                        r->list, r->list_len, r->area, r->area_len, r->token, SCANNER_TOKEN_LEN);
+                        list, list_len, r->area, r->area_len, r->token, SCANNER_TOKEN_LEN);
+}
+
+static uint8_t scan(struct run *r)
+{
+    return scan_to(r, r->list, r->list_len);
 }
 
 /* Scans many, with room for so many numbers of tokens. */
@@ -281,6 +286,30 @@ static void test_full(void)
     r.list_len = 4;
     check(scan(&r) == SCANNER_OK && r.state[SCANNER_STATE_ERRORS] == 1, "a larger list");
     check(r.list[SCANNER_OFFSET] == 1 && r.list[SCANNER_NUMBER] == SCANNER_ERROR_OCTAL, "the record in the list");
+}
+
+/* A thousand characters that are no token, and a list of 999 errors. */
+static void test_thousand(void)
+{
+    static size_t list[1000 * SCANNER_ERROR_LEN];
+    static char strays[1000];
+    struct run r, before;
+    size_t i;
+    memset(strays, '#', sizeof strays);
+    prepare(&r, strays, sizeof strays);
+    check(open_at(&r, 0, sizeof strays) == SCANNER_OK, "a thousand of #");
+    for (i = 0; i < 999; i++) {
+        part(scan_to(&r, list, 999 * SCANNER_ERROR_LEN) == SCANNER_OK, "an error each");
+        part(r.token[SCANNER_TOKEN_KIND] == SCANNER_KIND_ILLEGAL, "ILLEGAL each");
+        part(list[i * SCANNER_ERROR_LEN + SCANNER_OFFSET] == i + 1, "after the token");
+        part(list[i * SCANNER_ERROR_LEN + SCANNER_NUMBER] == SCANNER_ERROR_TOKEN, "no token");
+    }
+    before = r;
+    check(scan_to(&r, list, 999 * SCANNER_ERROR_LEN) == SCANNER_LIST_FULL, "8 at the last");
+    check(memcmp(&before, &r, sizeof r) == 0, "state and token are as before");
+    check(list[999 * SCANNER_ERROR_LEN + SCANNER_NUMBER] == 0, "and nothing is written");
+    check(scan_to(&r, list, 1000 * SCANNER_ERROR_LEN) == SCANNER_OK, "a list of a thousand");
+    check(r.state[SCANNER_STATE_ERRORS] == 1000, "a thousand errors");
 }
 
 static void test_area(void)
@@ -559,6 +588,7 @@ int main(void)
     test_states();
     test_short_slices();
     test_full();
+    test_thousand();
     test_area();
     test_parts();
     test_growth();

@@ -33,42 +33,35 @@ fn scanned(source: &str) -> (Vec<Kind>, Vec<(u8, usize)>) {
     (kinds, scanner.errors().map(|error| (error.kind.number(), error.position.offset)).collect())
 }
 
+fn check(source: &str, kinds: &[Kind], errors: &[(u8, usize)]) {
+    assert_eq!(scanned(source), (kinds.to_vec(), errors.to_vec()), "{source}");
+}
+
 #[test]
 fn what_is_no_token_has_an_error_after_it() {
-    use Kind::{Ellipsis, Eof, Ident, Illegal, Period, Semicolon};
-    let cases: [(&str, &[Kind], &[(u8, usize)]); 8] = [
-        ("#", &[Illegal, Eof], &[(14, 1)]),
-        ("@\n", &[Illegal, Eof], &[(14, 1)]),
-        ("é", &[Illegal, Eof], &[(14, 1)]),
-        ("..", &[Illegal, Eof], &[(14, 2)]),
-        ("...", &[Ellipsis, Eof], &[]),
-        ("....", &[Ellipsis, Period, Eof], &[]),
-        ("x..", &[Ident, Illegal, Semicolon, Eof], &[(14, 3)]),
-        ("x @", &[Ident, Illegal, Semicolon, Eof], &[(14, 3)]),
-    ];
-    for (source, kinds, errors) in cases {
-        assert_eq!(scanned(source), (kinds.to_vec(), errors.to_vec()), "{source}");
-    }
+    use Kind::{Ellipsis, Ident, Illegal, Period, Semicolon};
+    check("#", &[Illegal], &[(14, 1)]);
+    check("@\n", &[Illegal], &[(14, 1)]);
+    check("é", &[Illegal], &[(14, 1)]);
+    check("..", &[Illegal], &[(14, 2)]);
+    check("...", &[Ellipsis], &[]);
+    check("....", &[Ellipsis, Period], &[]);
+    check("x..", &[Ident, Illegal, Semicolon], &[(14, 3)]);
+    check("x @", &[Ident, Illegal, Semicolon], &[(14, 3)]);
 }
 
 #[test]
 fn an_escape_out_of_its_range_has_an_error_after_it() {
-    use Kind::{Char, Eof, Ident, Illegal, Semicolon, String};
-    let twice = [Illegal, Illegal, Semicolon, Eof];
-    let cases: [(&str, &[Kind], &[(u8, usize)]); 9] = [
-        (r#""\400""#, &twice, &[(12, 5), (8, 6)]),
-        (r"'\400'", &twice, &[(12, 5), (8, 6)]),
-        (r#""\400"#, &[Illegal, Semicolon, Eof], &[(12, 5)]),
-        (r#""\U00110000""#, &twice, &[(12, 11), (8, 12)]),
-        (r"'\uD800'", &twice, &[(12, 7), (8, 8)]),
-        (r#""a\400b""#, &[Illegal, Ident, Illegal, Semicolon, Eof], &[(12, 6), (8, 8)]),
-        (r#""\x""#, &twice, &[(11, 3), (8, 4)]),
-        (r#""\377""#, &[String, Semicolon, Eof], &[]),
-        (r"'\U0010FFFF'", &[Char, Semicolon, Eof], &[]),
-    ];
-    for (source, kinds, errors) in cases {
-        assert_eq!(scanned(source), (kinds.to_vec(), errors.to_vec()), "{source}");
-    }
+    use Kind::{Char, Ident, Illegal, Semicolon, String};
+    check(r#""\400""#, &[Illegal, Illegal, Semicolon], &[(12, 5), (8, 6)]);
+    check(r"'\400'", &[Illegal, Illegal, Semicolon], &[(12, 5), (8, 6)]);
+    check(r#""\400"#, &[Illegal, Semicolon], &[(12, 5)]);
+    check(r#""\U00110000""#, &[Illegal, Illegal, Semicolon], &[(12, 11), (8, 12)]);
+    check(r"'\uD800'", &[Illegal, Illegal, Semicolon], &[(12, 7), (8, 8)]);
+    check(r#""a\400b""#, &[Illegal, Ident, Illegal, Semicolon], &[(12, 6), (8, 8)]);
+    check(r#""\x""#, &[Illegal, Illegal, Semicolon], &[(11, 3), (8, 4)]);
+    check(r#""\377""#, &[String, Semicolon], &[]);
+    check(r"'\U0010FFFF'", &[Char, Semicolon], &[]);
 }
 
 #[test]
