@@ -23,7 +23,7 @@ entries! {
     EmptyLiteral "An empty character literal",
     LongLiteral "A character literal of more than one character",
     OverRange "An escape over its range",
-    NoToken "A character that starts no token",
+    UnknownToken "A character that starts no token",
     TwoDots "Two dots",
     HexByte "A byte given by `\\x` in a string",
     OctalByte "A byte given in octal in a string",
@@ -82,7 +82,7 @@ const LETTER: char = 'q';
 // Errors that ours records where the original records none.
 const NO_CODE_POINT: usize = 12;
 const NOT_ONE_CHARACTER: usize = 13;
-const NO_TOKEN: usize = 14;
+const UNKNOWN_TOKEN: usize = 14;
 
 impl Asked {
     fn ask(&mut self) {
@@ -175,14 +175,14 @@ impl Asked {
             let text = self.turned_back(&row);
             return match row.kind {
                 STRING => put_illegal(row, &text, NOT_ONE_CHARACTER, out),
-                ILLEGAL => self.put_stray(row, &text, out),
+                ILLEGAL => self.put_with_error(row, &text, out),
                 _ => out.push(row, text.as_bytes(), b""),
             };
         }
         let text = self.theirs.text(&row);
         if row.kind == ILLEGAL {
             let text = String::from_utf8_lossy(text).into_owned();
-            return self.put_stray(row, &text, out);
+            return self.put_with_error(row, &text, out);
         }
         let quoted = matches!(row.kind, CHAR | STRING) && text[0] != b'`' && text.len() > 3;
         let Some(body) = quoted.then(|| Body::of(text)).flatten() else {
@@ -201,7 +201,7 @@ impl Asked {
     }
 
     // Adds an ILLEGAL of theirs, and the error that the original does not record for it.
-    fn put_stray(&mut self, row: Row, text: &str, out: &mut Listing) {
+    fn put_with_error(&mut self, row: Row, text: &str, out: &mut Listing) {
         match unrecorded(text) {
             Some((number, entry)) => {
                 self.reasons.add(entry);
@@ -237,9 +237,9 @@ fn put_illegal(row: Row, text: &str, number: usize, out: &mut Listing) {
 fn unrecorded(text: &str) -> Option<(usize, Entry)> {
     let quoted = text.starts_with(['"', '\'']);
     if text == ".." {
-        Some((NO_TOKEN, Entry::TwoDots))
+        Some((UNKNOWN_TOKEN, Entry::TwoDots))
     } else if !quoted && text.chars().count() == 1 {
-        Some((NO_TOKEN, Entry::NoToken))
+        Some((UNKNOWN_TOKEN, Entry::UnknownToken))
     } else if quoted && ends_over_range(text) {
         Some((NO_CODE_POINT, Entry::OverRange))
     } else {

@@ -158,7 +158,7 @@ enum scanner_error_number {
     SCANNER_ERROR_ESCAPE_CHAR,  /* bad character in an escape */
     SCANNER_ERROR_CODE_POINT,   /* escape of no byte, or of no Unicode code point */
     SCANNER_ERROR_CHAR,         /* character literal not of one character */
-    SCANNER_ERROR_TOKEN         /* no token: a stray character, or two points */
+    SCANNER_ERROR_TOKEN         /* unknown token: a character that starts none, or two points */
 };
 
 /* The kinds of tokens. */
@@ -324,7 +324,7 @@ static inline const char *scanner_error_text(size_t number)
     case SCANNER_ERROR_CODE_POINT:
         return "escape is out of range: not a byte, or not a Unicode code point";
     case SCANNER_ERROR_CHAR: return "character literal must have exactly one character";
-    case SCANNER_ERROR_TOKEN: return "not a token: a stray character, or '..'";
+    case SCANNER_ERROR_TOKEN: return "unknown token: a character that starts none, or '..'";
     default: return "unknown error";
     }
 }

@@ -292,12 +292,12 @@ static void test_full(void)
 static void test_thousand(void)
 {
     static size_t list[1000 * SCANNER_ERROR_LEN];
-    static char strays[1000];
+    static char signs[1000];
     struct run r, before;
     size_t i;
-    memset(strays, '#', sizeof strays);
-    prepare(&r, strays, sizeof strays);
-    check(open_at(&r, 0, sizeof strays) == SCANNER_OK, "a thousand of #");
+    memset(signs, '#', sizeof signs);
+    prepare(&r, signs, sizeof signs);
+    check(open_at(&r, 0, sizeof signs) == SCANNER_OK, "a thousand of #");
     for (i = 0; i < 999; i++) {
         part(scan_to(&r, list, 999 * SCANNER_ERROR_LEN) == SCANNER_OK, "an error each");
         part(r.token[SCANNER_TOKEN_KIND] == SCANNER_KIND_ILLEGAL, "ILLEGAL each");

@@ -60,7 +60,7 @@ error_kinds! {
     /// A character literal has no character, or more than one.
     NotOneCharacter = 13, "character literal must have exactly one character";
     /// A character starts no token, such as `#`, or two points have no third.
-    NoToken = 14, "not a token: a stray character, or '..'";
+    UnknownToken = 14, "unknown token: a character that starts none, or '..'";
 }
 
 impl ErrorKind {

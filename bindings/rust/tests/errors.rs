@@ -38,7 +38,7 @@ fn check(source: &str, kinds: &[Kind], errors: &[(u8, usize)]) {
 }
 
 #[test]
-fn what_is_no_token_has_an_error_after_it() {
+fn what_is_unknown_token_has_an_error_after_it() {
     use Kind::{Ellipsis, Ident, Illegal, Period, Semicolon};
     check("#", &[Illegal], &[(14, 1)]);
     check("@\n", &[Illegal], &[(14, 1)]);

@@ -54,6 +54,6 @@ NO-CODE-POINT = 12
 abbrev pub NOT-ONE-CHARACTER : ℕ
 NOT-ONE-CHARACTER = 13
 
--- a stray character or `..`
-abbrev pub NO-TOKEN : ℕ
-NO-TOKEN = 14
+-- no token: a character that starts none, or `..`
+abbrev pub UNKNOWN-TOKEN : ℕ
+UNKNOWN-TOKEN = 14

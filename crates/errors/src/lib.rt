@@ -15,12 +15,12 @@ pub use names::BAD_OCTAL;
 pub use names::CUT_ESCAPE;
 pub use names::MISPLACED_UNDERSCORE;
 pub use names::NO_CODE_POINT;
-pub use names::NO_TOKEN;
 pub use names::NOT_ONE_CHARACTER;
 pub use names::OPEN_COMMENT;
 pub use names::OPEN_QUOTE;
 pub use names::OPEN_RAW_STRING;
 pub use names::UNKNOWN_ESCAPE;
+pub use names::UNKNOWN_TOKEN;
 
 // The number of errors after one was added, or the number of the refusal.
 pub enum Added {

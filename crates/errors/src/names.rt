@@ -33,5 +33,5 @@ pub const NO_CODE_POINT: u8 = 12;
 // A character literal that has not exactly one character.
 pub const NOT_ONE_CHARACTER: u8 = 13;
 
-// Characters that are no token: one that starts none, or two points without a third.
-pub const NO_TOKEN: u8 = 14;
+// No token: a character that starts none, or two points without a third.
+pub const UNKNOWN_TOKEN: u8 = 14;

@@ -40,8 +40,8 @@ digitCounts = (code "x", 2) ∷ (code "u", 4) ∷ (code "U", 8) ∷ []
 unfoldable pub following : ℕ → ℕ
 following c = entryFor c digitCounts
 
--- digits whose number is out of range, above it or a surrogate: "An over-range escape now records
--- error 12"
+-- digits whose number is out of range: "a surrogate .. with error 12", and by request 1 "An
+-- over-range escape now records error 12"
 abbrev pub outOfRange : Meaning
 outOfRange = noCharacter NO-CODE-POINT
 

@@ -24,7 +24,7 @@ use Rattle.quotes.proofs.Bodies.{closed-sound, open-error}
 use Rattle.spans.specs.Span.{toStop, toStarSlash}
 use Rattle.operators.specs.Longest.{operatorOf}
 use Rattle.lexer.specs.Lexeme.{Lexeme}
-use Rattle.lexer.specs.ErrorLaw.{LeftOpen, ErrorLaw}
+use Rattle.lexer.specs.ErrorLaw.{LeftOpen, ErrorLaw, LexErrors}
 use Rattle.lexer.specs.Words.{wordLexeme, lexWord, lexNumber}
 use Rattle.lexer.specs.Quotes.{lexString, lexChar, lexRaw}
 use Rattle.lexer.specs.Comments.{commentEndsLine, comment, lexComment}
@@ -126,6 +126,6 @@ unfolding lexToken
 law-token mark [] = cond-ind Lawful mark _ _ (λ _. law-semicolon) (λ _. legal EOF (λ e. omega arith))
 law-token mark (c ∷ r) = law-by mark (c .code) (c ∷ r)
 
-pub lex-errors : (mark : Bool) (r : List Char) → ErrorLaw (lex mark r .kind) (lex mark r .error)
+pub lex-errors : LexErrors
 unfolding lex
 lex-errors mark r = law-token mark (drop (skip mark r .len) r)

@@ -1,4 +1,4 @@
--- The laws of each rule: words, numbers, quoted literals, raw strings, comments, stray characters, operators, points and slashes.
+-- The laws of each rule: words, numbers, quoted literals, raw strings, comments, what is no token, operators, points and slashes.
 use Prim.Native.Nat.{ℕ, suc, _+_, _-_, _≤_, _<_}
 use mathlib.Core.Path.{_≡_, refl, sym, ap, _∙_}
 use mathlib.Core.Bool.{Bool, true, false, cond, not, _&&_, _||_, true≢false}
@@ -148,7 +148,7 @@ module _ (m : Bool) (c d : Char) (r t : List Char) (k : c .code ≢ 10) (j : d .
       (λ e. fine-cond m q (eqb (d .code) 47) _ _ _ _ (λ f. fine-line (no-mark (endsLine false r) e f)) (λ _. fine-general)))
       (λ h. rw (ends-local false r t (behind h)))
 
--- ---- stray characters and operators
+-- ---- what is no token, and operators
 fine-illegal : (m : Bool) (n : ℕ) (r t : List Char) → 0 < n → n ≤ length r → (Ends r → n < length r) → Fine m r (lexIllegal m n r) (lexIllegal m n (r ++ t))
 fine-illegal m n r t some b l =
     fine-reads m r n _ _ (reads-shown ILLEGAL n _ _ m (λ e. omega arith)) some b (λ h s. (rw (take-append-le n r t b), λ _. l h))

@@ -34,7 +34,7 @@ use Rattle.lexer.specs.declared.lexed.Value.the-variants.{Empty as NoVal
 use Rattle.lexer.specs.Lexeme.{shown, bare}
 use Rattle.lexer.specs.Words.{wordLexeme, lexWord}
 use Rattle.lexer.specs.Lex.{lexIllegal, lexOperator}
-use Rattle.lexer.specs.Made.{answerWith, madeAt, shownAt, strayAt}
+use Rattle.lexer.specs.Made.{answerWith, madeAt, shownAt, illegalAt}
 use Rattle.lexer.specs.Making.{isNumber, isRaw, textWay}
 use Rattle.lexer.specs.Placed.{textDiffersIn, placed, said}
 use Rattle.lexer.proofs.Known.{word-no-string, operator-no-string}
@@ -199,7 +199,7 @@ module _ (s : List ℕ) (at : ℕ) (h : at < length s) where
         way-read (take 1 r) (lexIllegal mark 1 r) (rw (e, append-nil, stray-there s at h) (omega (arith, first-least (drop at s))))
         (rw (e, test-there s at isDecimal decimal-high h, no-digit, and-false)) (rw (e, code-there s at 96 h (lit< tt)) no-quote) refl
 
-    first-said : said s at (strayAt at (firstChar (drop at s) .width) mark (isStray (firstChar (drop at s)))) ≡ placed s at (lexIllegal mark 1 (chars (drop at s)))
+    first-said : said s at (illegalAt at (firstChar (drop at s) .width) mark (isStray (firstChar (drop at s)))) ≡ placed s at (lexIllegal mark 1 (chars (drop at s)))
     unfolding said placed same
     first-said =
         let f = firstChar (drop at s) in
@@ -219,5 +219,5 @@ module _ (s : List ℕ) (at : ℕ) (h : at < length s) where
         })
 
     pub illegal-said : (c : Char) (stray : Bool) → c ≡ charAt s at → isStray c ≡ stray
-        → said s at (strayAt at (c .width) mark stray) ≡ placed s at (lexIllegal mark 1 (chars (drop at s)))
+        → said s at (illegalAt at (c .width) mark stray) ≡ placed s at (lexIllegal mark 1 (chars (drop at s)))
     illegal-said c stray is t = rw (← t, is ∙ charAt-in s at h) first-said

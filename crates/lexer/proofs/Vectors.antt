@@ -8,7 +8,7 @@ use Rattle.basics.specs.Spelling.{spelled}
 use Rattle.utf8.specs.Chars.{charsFrom, chars, firstChar, octets, encode}
 use Rattle.kinds.specs.Kinds.{ILLEGAL, EOF, COMMENT, IDENT, INT, FOR, DEFINE}
 use Rattle.kinds.specs.Table.{keywords, operators, kindNamed}
-use Rattle.errors.specs.Numbers.{BAD-OCTAL, MISPLACED-UNDERSCORE, NO-CODE-POINT, NOT-ONE-CHARACTER, NO-TOKEN}
+use Rattle.errors.specs.Numbers.{BAD-OCTAL, MISPLACED-UNDERSCORE, NO-CODE-POINT, NOT-ONE-CHARACTER, UNKNOWN-TOKEN}
 use Rattle.digits.specs.Digit.{digitVal}
 use Rattle.words.specs.Word.{isLetter, isWord, wordLen}
 use Rattle.blanks.specs.Blank.{isSpace, isBlank, skip}
@@ -69,7 +69,7 @@ doubled : first false "1__0" ≡ shown ILLEGAL 2 (spelled "1_") MISPLACED-UNDERS
 unfolding charsFrom firstChar octets encode skip isBlank isSpace isLetter digitVal digitRun strictRun decimal withoutI number numberText lexNumber lexBy lexToken lex
 doubled = refl
 
-two-dots : first true "..x" ≡ shown ILLEGAL 2 (spelled "..") NO-TOKEN true
+two-dots : first true "..x" ≡ shown ILLEGAL 2 (spelled "..") UNKNOWN-TOKEN true
 unfolding charsFrom firstChar octets encode skip isBlank isSpace isLetter lexDot lexBy lexToken lex
 two-dots = refl
 

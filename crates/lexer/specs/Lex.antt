@@ -9,7 +9,7 @@ use Rattle.utf8.specs.declared.Char.{Char}
 use Rattle.utf8.specs.Chars.{peek, encoded}
 use Rattle.kinds.specs.Kinds.{ILLEGAL, EOF}
 use Rattle.kinds.specs.Table.{setsMark}
-use Rattle.errors.specs.Numbers.{NO-TOKEN}
+use Rattle.errors.specs.Numbers.{UNKNOWN-TOKEN}
 use Rattle.digits.specs.Digit.{isDecimal}
 use Rattle.words.specs.Word.{isLetter}
 use Rattle.blanks.specs.Blank.{skip}
@@ -19,12 +19,13 @@ use Rattle.lexer.specs.Words.{lexWord, lexNumber}
 use Rattle.lexer.specs.Quotes.{lexString, lexChar, lexRaw}
 use Rattle.lexer.specs.Comments.{lexComment}
 
--- "`..` without a third dot, or any other single character: ILLEGAL, mark kept." It "records a new
--- error 14"
+-- n characters that are no token: "`..` without a third dot, or any other single character: ILLEGAL,
+-- mark kept." Where 01 goes on "No error is recorded", request 1 has "records a new error 14"
 abbrev pub lexIllegal : Bool → ℕ → List Char → Lexeme
-lexIllegal mark n r = shown ILLEGAL n (encoded (take n r)) NO-TOKEN mark
+lexIllegal mark n r = shown ILLEGAL n (encoded (take n r)) UNKNOWN-TOKEN mark
 
--- "Operators otherwise: the longest one"; where there is none, a stray character
+-- "Operators otherwise: the longest one"; where there is none, a character that starts no
+-- token
 unfoldable pub lexOperator : Bool → List Char → Lexeme
 lexOperator mark r =
     cond (eqb (operatorOf r .kind) ILLEGAL) (lexIllegal mark 1 r) (bare (operatorOf r .kind) (operatorOf r .len) (setsMark (operatorOf r .kind)))

@@ -7,7 +7,7 @@ use mathlib.Core.List.{List}
 use lib.Dec.{eqb}
 use lib.ListN.{length, getD}
 use Rattle.kinds.specs.Kinds.{ILLEGAL, SEMICOLON}
-use Rattle.errors.specs.Numbers.{NO-TOKEN}
+use Rattle.errors.specs.Numbers.{UNKNOWN-TOKEN}
 use Rattle.digits.specs.Digit.{isDecimal}
 use Rattle.numbers.specs.declared.Spelling.{Spelling}
 use Rattle.numbers.specs.declared.Spelling.the-variants.{AsRead as Same, LowerPrefix, OctalPrefix, LowerExponent}
@@ -54,12 +54,13 @@ madeAt kind at end mark text value = answer kind at end false mark text value 0
 abbrev pub shownAt : ℕ → ℕ → ℕ → Bool → Lexed
 shownAt kind at end mark = answer kind at end false mark AsRead NoValue (end - at)
 
-abbrev pub noTokenAt : ℕ → ℕ → Bool → Lexed
-noTokenAt at end mark = answerWith NO-TOKEN ILLEGAL at end false mark AsRead NoValue (end - at)
+-- characters that are no token
+abbrev pub unknownAt : ℕ → ℕ → Bool → Lexed
+unknownAt at end mark = answerWith UNKNOWN-TOKEN ILLEGAL at end false mark AsRead NoValue (end - at)
 
 -- one character, of so many bytes, that starts no token; it may be a stray byte
-abbrev pub strayAt : ℕ → ℕ → Bool → Bool → Lexed
-strayAt at width mark stray =
+abbrev pub illegalAt : ℕ → ℕ → Bool → Bool → Lexed
+illegalAt at width mark stray =
     record {
       end = at + width;
       chars = 1;
@@ -68,7 +69,7 @@ strayAt at width mark stray =
       kind = ILLEGAL;
       inserted = false;
       mark = mark;
-      error = NO-TOKEN;
+      error = UNKNOWN-TOKEN;
       code = 0;
       text = AsRead;
       value = NoValue;

@@ -4,7 +4,7 @@ use crate::comments::lex_raw;
 use crate::lexed::Lexed;
 use crate::lexed::bare;
 use crate::lexed::inserted_semicolon;
-use crate::lexed::no_token;
+use crate::lexed::unknown_token;
 use crate::number::lex_number;
 use crate::quoted::lex_char;
 use crate::quoted::lex_string;
@@ -26,7 +26,7 @@ fn lex_illegal(src: &[u8], at: usize, mark: bool) -> Lexed
     ensures { λ r. ⌜ said (now (src .entry)) at r ≡ placed (now (src .entry)) at (lexIllegal mark 1 (chars (drop at (now (src .entry))))) ⌝ }
 {
     let c = reader::char_from(src, at);
-    let mut x = no_token(at, at + c.width, mark);
+    let mut x = unknown_token(at, at + c.width, mark);
     x.chars = 1;
     if utf8::is_stray(c) {
         x.strays = 1;
@@ -98,7 +98,7 @@ fn lex_other(src: &[u8], at: usize, second: u8, mark: bool) -> Lexed
         return lex_comment(src, at, second, mark);
     }
     if is_two_points(src, at) {
-        return no_token(at, at + 2, mark);
+        return unknown_token(at, at + 2, mark);
     }
     lex_operator(src, at, mark)
 }

@@ -3,7 +3,7 @@ ghost use mathlib.Core.Path.{_≡_};
 ghost use Prim.Native.Nat.{_≤_};
 ghost use Rattle.lexer.specs.declared.lexed.Text.the-variants.{Empty};
 ghost use Rattle.lexer.specs.declared.lexed.Value.the-variants.{Empty as NoValue};
-ghost use Rattle.lexer.specs.Made.{madeAt, shownAt, noTokenAt, insertedAt};
+ghost use Rattle.lexer.specs.Made.{madeAt, shownAt, unknownAt, insertedAt};
 
 // How the text of a token is made of the characters read.
 pub enum Text {
@@ -94,12 +94,12 @@ pub(crate) fn shown(kind: u8, at: usize, end: usize, mark: bool) -> Lexed
 }
 
 // ASCII characters that are no token.
-pub(crate) fn no_token(at: usize, end: usize, mark: bool) -> Lexed
+pub(crate) fn unknown_token(at: usize, end: usize, mark: bool) -> Lexed
     requires { ⌜ at ≤ end ⌝ }
-    ensures { λ r. ⌜ r ≡ noTokenAt at end mark ⌝ }
+    ensures { λ r. ⌜ r ≡ unknownAt at end mark ⌝ }
 {
     let mut x = shown(kinds::ILLEGAL, at, end, mark);
-    x.error = errors::NO_TOKEN;
+    x.error = errors::UNKNOWN_TOKEN;
     x
 }
 

@@ -17,9 +17,8 @@ use Rattle.reading.specs.Reading.{Reading, errorAt, newErrors, after}
 use Rattle.reading.specs.Run.{scanned, next}
 use Rattle.scanner.specs.Scan.{view, refusedBy}
 use Rattle.scanner.proofs.Scans.{errors-after}
-use Rattle.runs.specs.Calls.{Held, call, left, errorsIn}
-use Rattle.runs.specs.Errors.{Adds, CallErrors}
-use Rattle.runs.proofs.Firsts.{last-apart}
+use Rattle.runs.specs.Calls.{Held, left, errorsIn}
+use Rattle.runs.specs.Errors.{Adds, AnswerErrors, CallErrors}
 use Rattle.runs.proofs.Played.{r, x, u, gives, view-left, came}
 
 module _ (src area : List ℕ) (h : Held) where
@@ -32,12 +31,12 @@ module _ (src area : List ℕ) (h : Held) where
   unfolding scanned
   law = lex-errors (r src area h .mark) (r src area h .rest)
 
-  refused : (n : ℕ) → CallErrors src h (refusedBy (suc n) (h .state) (h .table) (h .list) area)
+  refused : (n : ℕ) → AnswerErrors src h (refusedBy (suc n) (h .state) (h .table) (h .list) area)
   refused n =
       record {
         illegal-has-error = λ e. absurd (omega arith);
-        illegal-or-refused = λ _. inl (λ e. omega arith);
-        error-has-cause = λ e a. absurd (omega (arith, a .count));
+        illegal-or-refused = λ _. inl (λ e. omega arith, refl);
+        error-has-cause = λ n. absurd (n refl);
       }
 
   -- ---- a call that gives a token: the errors after it, and how many they are
@@ -54,25 +53,22 @@ module _ (src area : List ℕ) (h : Held) where
     listed e = ap (λ (v : Reading). v .errors) (view-left src area h room) ∙ after-it ∙ rw (ne-eqb (x src area h .error) 0 e)
 
     adds : x src area h .error ≢ 0 → Adds h (gives src area h) found
-    adds e = record { count = counted ∙ rw (ne-eqb (x src area h .error) 0 e) (omega arith); list = listed e; place = refl }
+    adds e = record { count = counted ∙ rw (ne-eqb (x src area h .error) 0 e) (omega arith); list = listed e; place = refl; number = e }
 
-    -- an error was added, so what is read has one, and it is the one that was added
-    read-has : (e : Error) → Adds h (gives src area h) e → x src area h .error ≢ 0
-    read-has e a z = let same = rw (eq-eqb (x src area h .error) 0 z) at counted in omega (arith, a .count, same)
+    -- where the count changes, what is read has an error
+    read-has : gives src area h .answer .state .errors ≢ h .state .errors → x src area h .error ≢ 0
+    read-has n z = let same = rw (eq-eqb (x src area h .error) 0 z) at counted in n (omega (arith, same))
 
-    is-found : (e : Error) → Adds h (gives src area h) e → e ≡ found
-    is-found e a = last-apart (errorsIn h) (errorsIn h) e found refl (sym (a .list) ∙ listed (read-has e a)) .1
-
-    gave : CallErrors src h (gives src area h)
+    gave : AnswerErrors src h (gives src area h)
     unfolding placed
     gave =
         record {
           illegal-has-error = λ k. (found, adds (law .illegal-has-error k));
-          illegal-or-refused = λ k. inr (found, adds (law .illegal-has-error k));
-          error-has-cause = λ e a. rw (is-found e a) (law .error-has-cause (read-has e a));
+          illegal-or-refused = λ k. inr k;
+          error-has-cause = λ n. (found, adds (read-has n), law .error-has-cause (read-has n));
         }
 
-pub call-errors : (src area : List ℕ) (h : Held) → CallErrors src h (call src area h)
+pub call-errors : CallErrors
 call-errors src area h =
-    ⊎-elim (λ c. subst (CallErrors src h) (sym (c .1)) (refused src area h (c .0)))
-    (λ c. subst (CallErrors src h) (sym (c .0)) (gave src area h (c .2))) (came src area h)
+    ⊎-elim (λ c. subst (AnswerErrors src h) (sym (c .1)) (refused src area h (c .0)))
+    (λ c. subst (AnswerErrors src h) (sym (c .0)) (gave src area h (c .2))) (came src area h)

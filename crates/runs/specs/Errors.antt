@@ -1,4 +1,4 @@
--- Which calls add an error, and which tokens these give.
+-- Every call that gives an ILLEGAL adds an error, and a call that adds one has a cause.
 use Prim.Native.Nat.{ℕ, suc}
 use mathlib.Core.Path.{_≡_}
 use mathlib.Core.List.{List, [], _∷_, _++_}
@@ -9,9 +9,9 @@ use Rattle.lexer.specs.ErrorLaw.{LeftOpen}
 use Rattle.lexer.specs.Lex.{lex}
 use Rattle.reading.specs.Run.{scanned}
 use Rattle.scanner.specs.Scan.{view, ScanLeft}
-use Rattle.runs.specs.Calls.{Held, left, errorsIn}
+use Rattle.runs.specs.Calls.{Held, call, left, errorsIn}
 
--- a call that was given h and left a has added the error e
+-- a call that was given h and left a has added the error e, and no other
 pub record Adds (h : Held) (a : ScanLeft) (e : Error) : Type 0 where
   -- the error count rises by one
   pub count : a .answer .state .errors ≡ suc (h .state .errors)
@@ -19,13 +19,22 @@ pub record Adds (h : Held) (a : ScanLeft) (e : Error) : Type 0 where
   pub list : errorsIn (left a) ≡ errorsIn h ++ (e ∷ [])
   -- at the offset that the call comes to
   pub place : e .offset ≡ a .answer .state .offset
+  -- 0 would mean no error
+  pub number : e .number ≢ 0
 
--- of any source, state and buffers
-pub record CallErrors (src : List ℕ) (h : Held) (a : ScanLeft) : Type 0 where
+-- a call that was given src and h, and left a
+pub record AnswerErrors (src : List ℕ) (h : Held) (a : ScanLeft) : Type 0 where
   -- "Every illegal token carries an error."
   pub illegal-has-error : a .answer .token .kind ≡ ILLEGAL → (e : Error) × Adds h a e
-  -- where the source has an ILLEGAL, the call is refused or adds an error
+  -- where the next token of the source is ILLEGAL, the call is refused and changes nothing, or it
+  -- gives that token
   pub illegal-or-refused : scanned lex (view src (h .state) (h .table) (h .list)) .kind ≡ ILLEGAL
-      → (a .answer .refusal ≢ 0) ⊎ ((e : Error) × Adds h a e)
-  -- a call that adds an error gives an ILLEGAL, or a raw string or a comment that is left open
-  pub error-has-cause : (e : Error) → Adds h a e → (a .answer .token .kind ≡ ILLEGAL) ⊎ LeftOpen (a .answer .token .kind) (e .number)
+      → ((a .answer .refusal ≢ 0) × (left a ≡ h)) ⊎ (a .answer .token .kind ≡ ILLEGAL)
+  -- a call that changes the error count adds an error, and gives an ILLEGAL, or a raw string or a
+  -- comment that is left open
+  pub error-has-cause : a .answer .state .errors ≢ h .state .errors
+      → (e : Error) × Adds h a e × ((a .answer .token .kind ≡ ILLEGAL) ⊎ LeftOpen (a .answer .token .kind) (e .number))
+
+-- of every source, state and buffers
+abbrev pub CallErrors : Type 0
+CallErrors = (src area : List ℕ) (h : Held) → AnswerErrors src h (call src area h)

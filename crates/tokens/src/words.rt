@@ -49,7 +49,11 @@ pub(crate) fn error(out: &mut Buffer, waiting: usize, number: usize) -> usize {
             waiting,
             b"character literal must have exactly one character",
         ),
-        errors::NO_TOKEN => output::bytes(out, waiting, b"not a token: a stray character, or '..'"),
+        errors::UNKNOWN_TOKEN => output::bytes(
+            out,
+            waiting,
+            b"unknown token: a character that starts none, or '..'",
+        ),
         _ => output::bytes(out, waiting, b"unknown error"),
     }
 }

@@ -11,13 +11,13 @@ use Rattle.lexer.proofs.lex.lex_illegal.Tie as tie
 char-from-requires : tie.Need-char-from-requires
 char-from-requires c κs = search needs
 
-add-no-token : tie.Need-add-no-token
-add-no-token c =
+add-unknown-token : tie.Need-add-unknown-token
+add-unknown-token c =
     let a = c .before .before .before .args in
     omega (arith, there-fits (a .src .now) (a .at) (c .before .char-from .result) (search needs) (c .before .char-from .ensures))
 
-no-token-requires : tie.Need-no-token-requires
-no-token-requires c κs = search needs
+unknown-token-requires : tie.Need-unknown-token-requires
+unknown-token-requires c κs = search needs
 
 is-stray-requires : tie.Need-is-stray-requires
 is-stray-requires c κs = search needs
@@ -25,16 +25,16 @@ is-stray-requires c κs = search needs
 returns : tie.Need-returns
 returns c =
     let a = c .before .before .before .before .before .before in
-    rw (c .before .before .no-token .ensures)
+    rw (c .before .before .unknown-token .ensures)
     (illegal-said (a .args .src .now) (a .args .at) (a .pre .0) (a .args .mark) (a .pre .1) (a .pre .2) (a .pre .3) _ true (c .before .before .before .before .char-from .ensures) (sym (c .before .is-stray .ensures) ∙ c .if1 .taken))
 
 returns-2 : tie.Need-returns-2
 returns-2 c =
     let a = c .before .before .before .before .before .before in
-    rw (c .before .before .no-token .ensures)
+    rw (c .before .before .unknown-token .ensures)
     (illegal-said (a .args .src .now) (a .args .at) (a .pre .0) (a .args .mark) (a .pre .1) (a .pre .2) (a .pre .3) _ false (c .before .before .before .before .char-from .ensures) (sym (c .before .is-stray .ensures) ∙ c .if1 .left))
 
 pub lex-illegal-spec : {M : Type 1} → statement M
 lex-illegal-spec =
     tie.close
-    (tie.spec char-from-requires add-no-token no-token-requires is-stray-requires returns returns-2)
+    (tie.spec char-from-requires add-unknown-token unknown-token-requires is-stray-requires returns returns-2)

@@ -32,18 +32,18 @@ returns c =
 is-two-points-requires : tie.Need-is-two-points-requires
 is-two-points-requires c κs = search needs
 
-add-no-token : tie.Need-add-no-token
-add-no-token c = search needs
+add-unknown-token : tie.Need-add-unknown-token
+add-unknown-token c = search needs
 
-no-token-requires : tie.Need-no-token-requires
-no-token-requires c κs = search needs
+unknown-token-requires : tie.Need-unknown-token-requires
+unknown-token-requires c κs = search needs
 
 returns-2 : tie.Need-returns-2
 returns-2 c =
     let a = c .before .before .before .before .before .before .before .args in
     let t = sym (c .before .before .is-two-points .ensures) ∙ c .before .if2 .taken in
     let p = points-ascii (a .src .now) (a .at) _ t in
-    ap (said (a .src .now) (a .at)) (c .no-token .ensures)
+    ap (said (a .src .now) (a .at)) (c .unknown-token .ensures)
     ∙ shown-said (a .src .now) (a .at) (a .at + 2) 2 ILLEGAL (a .mark) (p .0) refl (λ e. omega arith) _ (omega arith) refl (p .1) (p .2)
     ∙ ap (placed (a .src .now) (a .at)) (points-is (a .mark) (a .src .now) (a .at) (search needs) (a .second) (search needs) (search needs) t)
 
@@ -66,8 +66,8 @@ lex-other-spec =
     lex-comment-requires
     returns
     is-two-points-requires
-    add-no-token
-    no-token-requires
+    add-unknown-token
+    unknown-token-requires
     returns-2
     lex-operator-requires
     returns-3)
