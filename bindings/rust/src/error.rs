@@ -19,6 +19,7 @@ macro_rules! error_kinds {
         /// ```
         #[derive(Clone, Copy, Debug, PartialEq, Eq, Hash, PartialOrd, Ord)]
         #[repr(u8)]
+        #[non_exhaustive]
         pub enum ErrorKind {
             $($(#[$doc])* $kind = $number,)*
         }
