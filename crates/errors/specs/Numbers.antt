@@ -46,7 +46,7 @@ CUT-ESCAPE = 10
 abbrev pub BAD-ESCAPE : ℕ
 BAD-ESCAPE = 11
 
--- no Unicode code point
+-- escape of no byte, or of no Unicode code point
 abbrev pub NO-CODE-POINT : ℕ
 NO-CODE-POINT = 12
 

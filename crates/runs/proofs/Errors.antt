@@ -2,7 +2,7 @@
 use Prim.Native.Nat.{ℕ, suc, _+_, _≤_}
 use mathlib.Core.Path.{_≡_, refl, sym, ap, _∙_, subst}
 use mathlib.Core.Bool.{cond}
-use mathlib.Core.List.{List, [], _∷_, _++_}
+use mathlib.Core.List.{List, [], _∷_, _++_, append-nil}
 use mathlib.Core.Logic.{_≢_, inl, inr, ⊎-elim}
 use native.Mathlib.Omega.{arith}
 use lib.Dec.{eqb}
@@ -53,11 +53,13 @@ module _ (src area : List ℕ) (h : Held) where
     listed e = ap (λ (v : Reading). v .errors) (view-left src area h room) ∙ after-it ∙ rw (ne-eqb (x src area h .error) 0 e)
 
     adds : x src area h .error ≢ 0 → Adds h (gives src area h) found
-    adds e = record { count = counted ∙ rw (ne-eqb (x src area h .error) 0 e) (omega arith); list = listed e; place = refl; number = e }
+    adds e = record { accepted = refl; count = counted ∙ rw (ne-eqb (x src area h .error) 0 e) (omega arith); list = listed e; place = refl; number = e }
 
-    -- where the count changes, what is read has an error
-    read-has : gives src area h .answer .state .errors ≢ h .state .errors → x src area h .error ≢ 0
-    read-has n z = let same = rw (eq-eqb (x src area h .error) 0 z) at counted in n (omega (arith, same))
+    -- where the errors change, what is read has an error
+    read-has : errorsIn (left (gives src area h)) ≢ errorsIn h → x src area h .error ≢ 0
+    unfolding view
+    read-has n z =
+        n (ap (λ (v : Reading). v .errors) (view-left src area h room) ∙ after-it ∙ rw (eq-eqb (x src area h .error) 0 z) (append-nil (errorsIn h)))
 
     gave : AnswerErrors src h (gives src area h)
     unfolding placed

@@ -13,6 +13,8 @@ use Rattle.runs.specs.Calls.{Held, call, left, errorsIn}
 
 -- a call that was given h and left a has added the error e, and no other
 pub record Adds (h : Held) (a : ScanLeft) (e : Error) : Type 0 where
+  -- the call is not refused
+  pub accepted : a .answer .refusal ≡ 0
   -- the error count rises by one
   pub count : a .answer .state .errors ≡ suc (h .state .errors)
   -- e follows the errors that were there
@@ -24,15 +26,15 @@ pub record Adds (h : Held) (a : ScanLeft) (e : Error) : Type 0 where
 
 -- a call that was given src and h, and left a
 pub record AnswerErrors (src : List ℕ) (h : Held) (a : ScanLeft) : Type 0 where
-  -- "Every illegal token carries an error."
+  -- request 1: "Every illegal token carries an error."
   pub illegal-has-error : a .answer .token .kind ≡ ILLEGAL → (e : Error) × Adds h a e
-  -- where the next token of the source is ILLEGAL, the call is refused and changes nothing, or it
-  -- gives that token
+  -- where the next token of the source is ILLEGAL, the call is refused and leaves state, table and
+  -- list as they were, or it gives an ILLEGAL
   pub illegal-or-refused : scanned lex (view src (h .state) (h .table) (h .list)) .kind ≡ ILLEGAL
       → ((a .answer .refusal ≢ 0) × (left a ≡ h)) ⊎ (a .answer .token .kind ≡ ILLEGAL)
-  -- a call that changes the error count adds an error, and gives an ILLEGAL, or a raw string or a
-  -- comment that is left open
-  pub error-has-cause : a .answer .state .errors ≢ h .state .errors
+  -- a call that changes the errors adds one, and gives an ILLEGAL, or a raw string or a comment that
+  -- is left open
+  pub error-has-cause : errorsIn (left a) ≢ errorsIn h
       → (e : Error) × Adds h a e × ((a .answer .token .kind ≡ ILLEGAL) ⊎ LeftOpen (a .answer .token .kind) (e .number))
 
 -- of every source, state and buffers
