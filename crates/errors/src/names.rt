@@ -20,8 +20,8 @@ pub const OPEN_COMMENT: u8 = 7;
 
 pub const OPEN_QUOTE: u8 = 8;
 
-// Escapes: an unknown one, one that the end cuts, one with a bad character, one that is no Unicode
-// code point.
+// Escapes: an unknown one, one that the end cuts, one with a bad character, one of no byte or of no
+// Unicode code point.
 pub const UNKNOWN_ESCAPE: u8 = 9;
 
 pub const CUT_ESCAPE: u8 = 10;

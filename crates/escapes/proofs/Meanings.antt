@@ -1,5 +1,6 @@
 -- What holds of characters and bytes, and of errors that are not 0, holds of what an escape gives.
 use Prim.Native.Nat.{ℕ, _≤_}
+use Prim.Native.Char.{code}
 use mathlib.Core.Path.{_≡_, subst}
 use mathlib.Core.Bool.{true, false}
 use mathlib.Core.List.{List, [], _∷_}
@@ -40,21 +41,21 @@ module _ (P : Meaning → Type 0) (char : (c : ℕ) → P (character c false)) (
       (λ _. cond-ind (λ (x : Escape). P (x .meaning)) (eqb (c .code) quote) _ _ (λ _. char (c .code))
       (λ _. cond-ind (λ (x : Escape). P (x .meaning)) (ltb (digitVal (c .code)) 8) _ _ (λ _. byte-ind (escapeDigits 8 3 0 (c ∷ r)))
       (λ _. cond-ind (λ (x : Escape). P (x .meaning)) (eqb (following (c .code)) 0) _ _ (λ _. bad _ (λ e. omega arith))
-      (λ _. cond-ind P (eqb (c .code) 120) _ _ (λ _. byte-ind n) (λ _. code-ind n)))))
+      (λ _. cond-ind P (eqb (c .code) (code "x")) _ _ (λ _. byte-ind n) (λ _. code-ind n)))))
       (λ _. char (letter (c .code)))
 
 -- ---- a byte that an escape gives is one
 abbrev Small : Meaning → Type 0
-Small (character code true) = code ≤ 255
-Small (character code false) = Unit {0}
+Small (character c true) = c ≤ 255
+Small (character c false) = Unit {0}
 Small (noCharacter error) = Unit {0}
 
-pub escape-byte : (quote : ℕ) (r : List Char) (code : ℕ) → escapeOf quote r .meaning ≡ character code true → code ≤ 255
-escape-byte quote r code e = subst Small e (escape-ind Small (λ _. tt) (λ c l. l) (λ _ _. tt) quote r)
+pub escape-byte : (quote : ℕ) (r : List Char) (c : ℕ) → escapeOf quote r .meaning ≡ character c true → c ≤ 255
+escape-byte quote r c e = subst Small e (escape-ind Small (λ _. tt) (λ c l. l) (λ _ _. tt) quote r)
 
 -- ---- an escape that gives no character has an error
 abbrev pub HasError : Meaning → Type 0
-HasError (character code byte) = Unit {0}
+HasError (character c byte) = Unit {0}
 HasError (noCharacter error) = error ≢ 0
 
 pub escape-error : (quote : ℕ) (r : List Char) → HasError (escapeOf quote r .meaning)

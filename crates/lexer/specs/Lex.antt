@@ -24,8 +24,7 @@ use Rattle.lexer.specs.Comments.{lexComment}
 abbrev pub lexIllegal : Bool → ℕ → List Char → Lexeme
 lexIllegal mark n r = shown ILLEGAL n (encoded (take n r)) UNKNOWN-TOKEN mark
 
--- "Operators otherwise: the longest one"; where there is none, a character that starts no
--- token
+-- "Operators otherwise: the longest one"; where there is none, the character starts no token
 unfoldable pub lexOperator : Bool → List Char → Lexeme
 lexOperator mark r =
     cond (eqb (operatorOf r .kind) ILLEGAL) (lexIllegal mark 1 r) (bare (operatorOf r .kind) (operatorOf r .len) (setsMark (operatorOf r .kind)))

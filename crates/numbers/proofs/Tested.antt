@@ -26,16 +26,19 @@ use Rattle.numbers.specs.Run.{digitRun, strictRun}
 use Rattle.numbers.specs.Number.{Numeral, afterChars, exponentDigits, exponent, finish, fraction, decimalRest, decimal, prefixed, bareZero, leadingZero, withoutI, number}
 use Rattle.numbers.proofs.Runs.{Plain, plain-none, plain-more, plain-within, run-plain, strict-plain}
 
--- the kinds that a number may have without an error
+-- the kinds that a number may have
+abbrev pub isNumeric : ℕ → Bool
+isNumeric kind = among kind (ILLEGAL ∷ INT ∷ FLOAT ∷ IMAG ∷ [])
+
+-- those of a number without an error; with an error it is ILLEGAL
 abbrev isGood : ℕ → Bool
 isGood kind = among kind (INT ∷ FLOAT ∷ IMAG ∷ [])
 
--- with an error it is ILLEGAL
-abbrev isNumeric : ℕ → ℕ → Bool
-isNumeric kind error = cond (eqb error 0) (isGood kind) (eqb kind ILLEGAL)
+abbrev agrees : ℕ → ℕ → Bool
+agrees kind error = cond (eqb error 0) (isGood kind) (eqb kind ILLEGAL)
 
-numeric-among : (kind error : ℕ) → T (isNumeric kind error) → T (among kind (ILLEGAL ∷ INT ∷ FLOAT ∷ IMAG ∷ []))
-numeric-among kind error t = go (eqb error 0) (eqb kind ILLEGAL) t
+agrees-numeric : (kind error : ℕ) → T (agrees kind error) → T (isNumeric kind)
+agrees-numeric kind error t = go (eqb error 0) (eqb kind ILLEGAL) t
   where
     go : (none bad : Bool) → T (cond none (isGood kind) bad) → T (bad || isGood kind)
     go true true t = tt
@@ -95,7 +98,7 @@ module _ (r : List Char) where
     pub some : Starts r → 0 < n
 
   abbrev Read : Numeral → Type 0
-  Read x = Begun (x .spelling) (x .len) × T (isNumeric (x .kind) (x .error))
+  Read x = Begun (x .spelling) (x .len) × T (agrees (x .kind) (x .error))
 
   -- m characters more
   more : (sp : Spelling) (n m : ℕ) → Begun sp n → Plain m (drop n r) → Begun sp (n + m)
@@ -158,7 +161,7 @@ module _ (r : List Char) where
       cond-ind (λ x. Read (afterChars n x)) (eqb (peek (drop n r)) (code ".")) _ _ (point-read n b) (λ _. finish-read INT tt n b)
 
   -- ---- a number with a prefix
-  prefixed-read : (base error : ℕ) (sp : Spelling) → T (isNumeric ILLEGAL error) → base ≤ 16 → (n : ℕ) → Begun sp n → Read (afterChars n (prefixed base error sp (drop n r)))
+  prefixed-read : (base error : ℕ) (sp : Spelling) → T (agrees ILLEGAL error) → base ≤ 16 → (n : ℕ) → Begun sp n → Read (afterChars n (prefixed base error sp (drop n r)))
   unfolding prefixed
   prefixed-read base error sp k h n b =
       let d = digitRun base false (drop n r) in
@@ -185,7 +188,7 @@ module _ (r : List Char) where
           cond-ind Read (isDecimal (peek (drop 1 r))) _ _
           (λ _. prefixed-read 8 BAD-OCTAL OctalPrefix tt (lit≤ tt) 1 (record { plain = first; spelled = lit≤ tt; some = λ _. lit< tt })) (λ _. decimal-read)
 
-      letter-read : (x base error : ℕ) (sp : Spelling) → T (isNumeric ILLEGAL error) → 0 < x → x < 0x80 → x ≢ code "\n" → base ≤ 16 → (getD r 1 ended .code ≡ x → Spelled sp r 2) → eqb (peek (drop 1 r)) x ≡ true
+      letter-read : (x base error : ℕ) (sp : Spelling) → T (agrees ILLEGAL error) → 0 < x → x < 0x80 → x ≢ code "\n" → base ≤ 16 → (getD r 1 ended .code ≡ x → Spelled sp r 2) → eqb (peek (drop 1 r)) x ≡ true
           → Read (afterChars 2 (prefixed base error sp (drop 2 r)))
       letter-read x base error sp t l h k b s e =
           prefixed-read base error sp t b 2 (record { plain = plain-add 1 1 r first (plain-one (drop 1 r) x l h k e); spelled = s (sym (peek-at 1 r) ∙ eqb-true _ _ e); some = λ _. lit< tt })
@@ -227,8 +230,8 @@ module _ (r : List Char) where
   pub number-within : number r .len ≤ length r
   number-within = plain-within (number r .len) r (number-read .0 .plain)
 
-  pub number-kind : (kind : ℕ) → among kind (ILLEGAL ∷ INT ∷ FLOAT ∷ IMAG ∷ []) ≡ false → number r .kind ≢ kind
-  number-kind kind f e = subst T f (subst (λ k. T (among k (ILLEGAL ∷ INT ∷ FLOAT ∷ IMAG ∷ []))) e (numeric-among (number r .kind) (number r .error) (number-read .1)))
+  pub number-kind : (kind : ℕ) → isNumeric kind ≡ false → number r .kind ≢ kind
+  number-kind kind f e = subst T f (subst (λ k. T (isNumeric k)) e (agrees-numeric (number r .kind) (number r .error) (number-read .1)))
 
   pub number-illegal : number r .kind ≡ ILLEGAL → number r .error ≢ 0
   number-illegal k e = rw (k, e) at (number-read .1)

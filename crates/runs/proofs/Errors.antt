@@ -2,7 +2,7 @@
 use Prim.Native.Nat.{ℕ, suc, _+_, _≤_}
 use mathlib.Core.Path.{_≡_, refl, sym, ap, _∙_, subst}
 use mathlib.Core.Bool.{cond}
-use mathlib.Core.List.{List, [], _∷_, _++_, append-nil}
+use mathlib.Core.List.{List, _++_, append-nil}
 use mathlib.Core.Logic.{_≢_, inl, inr, ⊎-elim}
 use native.Mathlib.Omega.{arith}
 use lib.Dec.{eqb}
@@ -36,7 +36,7 @@ module _ (src area : List ℕ) (h : Held) where
       record {
         illegal-has-error = λ e. absurd (omega arith);
         illegal-or-refused = λ _. inl (λ e. omega arith, refl);
-        error-has-cause = λ n. absurd (n refl);
+        error-has-cause = λ e. absurd (e refl);
       }
 
   -- ---- a call that gives a token: the errors after it, and how many they are
@@ -48,18 +48,16 @@ module _ (src area : List ℕ) (h : Held) where
   counted = ap length after-it ∙ errors-after (x src area h .error) (u src area h .offset) (h .state .errors) (h .list) (u src area h .lines)
 
   module _ (room : length (u src area h .errors) ≤ roomOf (h .list)) where
-    listed : x src area h .error ≢ 0 → errorsIn (left (gives src area h)) ≡ errorsIn h ++ (found ∷ [])
+    in-list : errorsIn (left (gives src area h)) ≡ errorsIn h ++ newErrors (x src area h .error) (u src area h .offset) (u src area h .lines)
     unfolding view
-    listed e = ap (λ (v : Reading). v .errors) (view-left src area h room) ∙ after-it ∙ rw (ne-eqb (x src area h .error) 0 e)
+    in-list = ap (λ (v : Reading). v .errors) (view-left src area h room) ∙ after-it
 
     adds : x src area h .error ≢ 0 → Adds h (gives src area h) found
-    adds e = record { accepted = refl; count = counted ∙ rw (ne-eqb (x src area h .error) 0 e) (omega arith); list = listed e; place = refl; number = e }
+    adds e = record { accepted = refl; count = counted ∙ rw (ne-eqb (x src area h .error) 0 e) (omega arith); list = in-list ∙ rw (ne-eqb (x src area h .error) 0 e); place = refl; number = e }
 
     -- where the errors change, what is read has an error
     read-has : errorsIn (left (gives src area h)) ≢ errorsIn h → x src area h .error ≢ 0
-    unfolding view
-    read-has n z =
-        n (ap (λ (v : Reading). v .errors) (view-left src area h room) ∙ after-it ∙ rw (eq-eqb (x src area h .error) 0 z) (append-nil (errorsIn h)))
+    read-has n z = n (in-list ∙ rw (eq-eqb (x src area h .error) 0 z) (append-nil (errorsIn h)))
 
     gave : AnswerErrors src h (gives src area h)
     unfolding placed

@@ -51,7 +51,7 @@ string-moves m x (inr a) e = absurd (omega (arith, a .4))
 
 -- ---- one call
 module _ (src area : List ℕ) (h : Held) where
-  abbrev pub s : State
+  abbrev s : State
   s = h .state
 
   -- how far the source has been read, the token there and how it stands in the source, and how far the source is read then
