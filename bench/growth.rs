@@ -15,8 +15,6 @@ const TRIES: usize = 3;
 /// The time after which a shape is given no further rounds, in nanoseconds.
 const ENOUGH: f64 = 3e9;
 
-const KNOWN: &str = "no: the line of an error is searched for from the first line";
-
 /// A source is the head, then the unit again and again, then the tail.
 struct Shape {
     name: &'static str,
@@ -24,12 +22,10 @@ struct Shape {
     unit: &'static str,
     tail: &'static str,
     pass: Pass,
-    /// Its cost is known to grow faster.
-    known: bool,
 }
 
 const fn shape(name: &'static str, head: &'static str, unit: &'static str, tail: &'static str) -> Shape {
-    Shape { name, head, unit, tail, pass: c_batches, known: false }
+    Shape { name, head, unit, tail, pass: c_batches }
 }
 
 /// Many short lines, through the Rust crate.
@@ -37,7 +33,7 @@ const fn lines(name: &'static str, pass: Pass) -> Shape {
     Shape { pass, ..shape(name, "", "x\n", "") }
 }
 
-const SHAPES: [Shape; 14] = [
+const SHAPES: [Shape; 15] = [
     shape("one long line: `x + x + ..`", "", "x + ", "x"),
     shape("one word", "", "lane", ""),
     shape("LFs alone", "", "\n", ""),
@@ -48,7 +44,8 @@ const SHAPES: [Shape; 14] = [
     shape("a raw string with CR LF", "`", "quota\r\n", "`"),
     shape("a string of escapes", "\"", "\\n", "\""),
     shape("errors on one line: `08 08 ..`", "", "08 ", ""),
-    Shape { known: true, ..shape("an error on each line of 16 bytes", "", "quota[x] = 08 +\n", "") },
+    shape("an error on each line of 16 bytes", "", "quota[x] = 08 +\n", ""),
+    shape("an error on each line of 2 bytes: `#` LF", "", "#\n", ""),
     lines("Rust, `x` LF: `tokens`, line and column of each token", line_and_column),
     lines("Rust, `x` LF: `scan`, `position` asked for each token", position_asked),
     lines("Rust, `x` LF: `batch`, `position` asked for each token", position_lent),
@@ -127,7 +124,7 @@ impl Shape {
     fn print_row(&self) -> bool {
         let mut best = [f64::INFINITY; SIZES.len()];
         let mut linear = false;
-        for _ in 0..if self.known { 1 } else { TRIES } {
+        for _ in 0..TRIES {
             self.measure(&mut best);
             linear = is_in_proportion(&best);
             if linear {
@@ -136,11 +133,7 @@ impl Shape {
         }
         let bytes: Vec<_> = best.iter().zip(SIZES).map(|(best, bytes)| format!("{:.2}", best / bytes as f64)).collect();
         let doublings: Vec<_> = best.windows(2).map(|two| format!("{:.2}", two[1] / two[0])).collect();
-        let verdict = match (linear, self.known) {
-            (true, _) => "yes",
-            (false, true) => KNOWN,
-            (false, false) => "no",
-        };
+        let verdict = if linear { "yes" } else { "no" };
         println!("| {} | {} | {} | {verdict} |", self.name, bytes.join(" | "), doublings.join(", "));
         let _ = std::io::stdout().flush();
         linear
@@ -157,7 +150,7 @@ fn main() -> ExitCode {
     println!("the C functions in batches of up to 256 tokens, or where it says so through the Rust crate:\n");
     println!("| source | 64 KB | 128 KB | 256 KB | 512 KB | 1 MB | time at each doubling | in proportion |");
     println!("|---|---|---|---|---|---|---|---|");
-    let failed = SHAPES.iter().filter(|shape| !shape.print_row() && !shape.known).count();
+    let failed = SHAPES.iter().filter(|shape| !shape.print_row()).count();
     if failed > 0 {
         println!("\n{failed} shapes do not grow in proportion.");
         return ExitCode::FAILURE;

@@ -12,6 +12,8 @@ const PLACE: usize = 2;
 const OFFSET: usize = 3;
 const LINES: usize = 5;
 const ERRORS: usize = 6;
+const LINE: usize = 7;
+const LINE_START: usize = 8;
 const POSITION: usize = 2;
 const CODE: usize = 3;
 const TEXT: usize = 4;
@@ -42,7 +44,7 @@ struct Part {
 /// Our listing of a source, offsets less the base; or what is wrong with what the library answered.
 pub fn list(source: &[u8], base: usize, size: usize, out: &mut Listing) -> Result<(), String> {
     out.clear();
-    let mut run = Run { source, base, state: [0; 7], token: [0; 10], table: vec![0], list: vec![], area: vec![] };
+    let mut run = Run { source, base, state: [0; ffi::STATE_LEN], token: [0; 10], table: vec![0], list: vec![], area: vec![] };
     let mut answer = 0;
     let number = ffi::open(source, base, size, &mut run.table, &mut run.state, &mut answer);
     if number != 0 {
@@ -113,7 +115,21 @@ impl Run<'_> {
             return Err("a token's characters".into());
         }
         self.check_parts(start, read, self.state[ERRORS] > before[ERRORS])?;
+        self.check_line()?;
         self.put(offset, out)
+    }
+
+    // The state's line is the one that the table has for its offset.
+    fn check_line(&self) -> Result<(), String> {
+        let mut at = [0; 3];
+        let offset = self.state[OFFSET];
+        if ffi::position(&self.state, &self.table, self.base + offset, &mut at) != 0 {
+            return Err("an offset that is refused".into());
+        }
+        if at != [offset, self.state[LINE], offset.wrapping_sub(self.state[LINE_START]) + 1] {
+            return Err("another line than the table's".into());
+        }
+        Ok(())
     }
 
     fn put(&mut self, offset: usize, out: &mut Listing) -> Result<(), String> {

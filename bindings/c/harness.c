@@ -242,6 +242,21 @@ static size_t check_part(struct world *w, const size_t *part, size_t end)
     return part[0] != 0 && part[2] > end ? part[2] : end;
 }
 
+/* The state's line is the line count, and starts at the last line start; a new error has line and column from it. */
+static void check_line(struct world *w)
+{
+    const size_t *state = numbers_of(&w->state), *old = (const size_t *)(const void *)w->state.before;
+    size_t lines = state[SCANNER_STATE_LINES], start = state[SCANNER_STATE_LINE_START];
+    const size_t *error = numbers_of(&w->list) + old[SCANNER_STATE_ERRORS] * SCANNER_ERROR_LEN;
+    check(state[SCANNER_STATE_LINE] == lines, "a line that is not the line count");
+    check(start == numbers_of(&w->table)[lines - 1] && start <= state[SCANNER_STATE_OFFSET],
+          "a line start that is not the last");
+    if (state[SCANNER_STATE_ERRORS] > old[SCANNER_STATE_ERRORS])
+        check(error[SCANNER_OFFSET] == state[SCANNER_STATE_OFFSET] && error[SCANNER_LINE] == lines
+                  && error[SCANNER_COLUMN] == state[SCANNER_STATE_OFFSET] - start + 1,
+              "an error that is not on the state's line");
+}
+
 /* An accepted scan: what it wrote, and that state and token are sound. */
 static void check_scanned(struct world *w)
 {
@@ -255,6 +270,7 @@ static void check_scanned(struct world *w)
     check(state[SCANNER_STATE_OFFSET] <= state[SCANNER_STATE_SIZE], "an offset above the size");
     check(state[SCANNER_STATE_LINES] <= len_of(&w->table), "a line count above the table");
     check(state[SCANNER_STATE_ERRORS] - old[SCANNER_STATE_ERRORS] <= 1, "more than one error");
+    check_line(w);
     check_kept(&w->src, "the source was written");
     check_within(&w->state, 0, SCANNER_STATE_LEN, "more than a state was written");
     check_within(&w->token, 0, SCANNER_TOKEN_LEN, "more than a token was written");
@@ -525,7 +541,7 @@ static void one_round(void)
 /* Every length of state, token, tokens and answer from 0 to 12, on a text that is scanned if they suffice. */
 static void all_lengths(size_t state, size_t token)
 {
-    static const size_t fresh[] = {0, 5, 0, 0, 0, 1, 0};
+    static const size_t fresh[SCANNER_STATE_LEN] = {0, 5, 0, 0, 0, 1, 0, 1, 0};
     struct world w;
     size_t i;
     w.src = make(5, 1);

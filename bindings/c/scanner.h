@@ -51,7 +51,7 @@ extern "C" {
 #define SCANNER_MAX_POSITION 4294967295u
 
 /* How many numbers a state, a token, an error, an answered position and a part have. */
-#define SCANNER_STATE_LEN 7
+#define SCANNER_STATE_LEN 9
 #define SCANNER_TOKEN_LEN 10
 #define SCANNER_ERROR_LEN 4
 #define SCANNER_POSITION_LEN 3
@@ -80,7 +80,9 @@ enum scanner_state_index {
     SCANNER_STATE_OFFSET,   /* the characters before it */
     SCANNER_STATE_MARK,     /* not 0: a semicolon may be inserted; a scan gives 0 or 1 */
     SCANNER_STATE_LINES,    /* line starts in the table */
-    SCANNER_STATE_ERRORS    /* errors in the list */
+    SCANNER_STATE_ERRORS,   /* errors in the list */
+    SCANNER_STATE_LINE,     /* the line of the offset; it is the number of line starts */
+    SCANNER_STATE_LINE_START /* the offset at which this line starts; it is the last line start */
 };
 
 /*
@@ -119,6 +121,7 @@ enum scanner_place_index {
  * - base + size is too large,
  * - the line count is 0 or above what the table holds, or the first line start is not 0,
  * - the last line start, or that of the line asked for, is above the offset,
+ * - the state's line is not the line count, or its line start is not the last line start,
  * - the error count is above what the list holds,
  * - a part of a token is outside its buffer,
  * - a slice is too short.

@@ -247,7 +247,43 @@ static void test_states(void)
     r.state[SCANNER_STATE_ERRORS] = 17;
     check(scan(&r) == SCANNER_DOES_NOT_FIT, "6, error count above the list");
     r.state[SCANNER_STATE_ERRORS] = 0;
+    r.state[SCANNER_STATE_LINE] = 2;
+    check(scan(&r) == SCANNER_DOES_NOT_FIT, "6, a line that is not the line count");
+    check(locate(&r, 0) == SCANNER_DOES_NOT_FIT, "6 from a query, by the line");
+    check(error_at(&r, 0) == SCANNER_DOES_NOT_FIT, "6 from a query that is lent no table");
+    r.state[SCANNER_STATE_LINE] = 1;
     check(scan(&r) == SCANNER_OK, "mended");
+    r.state[SCANNER_STATE_LINE_START] = 1;
+    check(scan(&r) == SCANNER_DOES_NOT_FIT, "6, a line start that is not the last");
+    r.state[SCANNER_STATE_LINE_START] = 0;
+    check(scan(&r) == SCANNER_OK, "mended again");
+}
+
+/* The state after each token: its line is the one that the table has for its offset. */
+static void current_line(const char *src, size_t size, size_t line, size_t start)
+{
+    struct run r;
+    prepare(&r, src, strlen(src));
+    check(open_at(&r, 0, size) == SCANNER_OK, "a text and its size");
+    do {
+        check(scan(&r) == SCANNER_OK, "a token");
+        check(locate(&r, r.state[SCANNER_STATE_OFFSET]) == SCANNER_OK, "the offset that was reached");
+        check(r.answer[SCANNER_LINE] == r.state[SCANNER_STATE_LINE], "its line");
+        check(r.answer[SCANNER_COLUMN] == r.state[SCANNER_STATE_OFFSET] - r.state[SCANNER_STATE_LINE_START] + 1,
+              "its column");
+    } while (r.token[SCANNER_TOKEN_KIND] != SCANNER_KIND_EOF);
+    check(r.state[SCANNER_STATE_LINE] == line && r.state[SCANNER_STATE_LINE_START] == start, "the last line");
+}
+
+static void test_lines(void)
+{
+    current_line("", 0, 1, 0);
+    current_line("x", 1, 1, 0);
+    current_line("x\ny", 3, 2, 2);
+    current_line("\n\n/*\n*/ x\n", 10, 4, 5);
+    current_line("\n\n/*\n*/ x\n", 11, 5, 10);
+    current_line("`\n", 2, 1, 0);
+    current_line("`\n", 3, 2, 2);
 }
 
 static void test_short_slices(void)
@@ -586,6 +622,7 @@ int main(void)
     test_opening();
     test_queries();
     test_states();
+    test_lines();
     test_short_slices();
     test_full();
     test_thousand();

@@ -5,8 +5,10 @@
 
 #![allow(unsafe_code)]
 
-/// A state in its numbers: base, size, place, offset, mark, lines, errors.
-pub type State = [usize; 7];
+/// How many numbers a state has.
+pub const STATE_LEN: usize = 9;
+/// A state in its numbers: base, size, place, offset, mark, lines, errors, line, line start.
+pub type State = [usize; STATE_LEN];
 /// A token in its numbers: kind, inserted, position, code, then text and value: in the area or not, start, end.
 pub type Token = [usize; 10];
 

@@ -43,7 +43,7 @@ fn replace_bytes(cases: &mut [u8]) {
 
 fn read_cases(cases: &[u8]) {
     let mut machine = Machine {
-        registers: [0; 17],
+        registers: [0; 19],
         table: [0; 8],
         list: [0; 16],
         area: [0; 32],

@@ -92,6 +92,8 @@ fn show_state(state: State) {
     show::number(state::bit_of(state.mark));
     show::number(state.lines);
     show::number(state.errors);
+    show::number(state.line.number);
+    show::number(state.line.start);
 }
 
 // The questions.

@@ -15,7 +15,8 @@ use Rattle.position.proofs.Place.{fit}
 use Rattle.blanks.specs.declared.Skipped.{Skipped}
 use Rattle.blanks.specs.Blank.{skip, skippedAt}
 use Rattle.position.specs.Place.{inRange}
-use Rattle.state.specs.Fits.{fileOf, fitsAlone, fitsTable, fitsSource, fitsList, fits}
+use Rattle.state.specs.State.{advance}
+use Rattle.state.specs.Fits.{fileOf, fitsLine, fitsAlone, fitsTable, fitsSource, fitsList, fits}
 use Rattle.parts.specs.declared.token.Token.{Token}
 use Rattle.scanner.specs.Scan.{ScanLeft, scanOf}
 use Rattle.parts.specs.Layout.{tokenWidth, tokenNumbers}
@@ -60,7 +61,8 @@ offset-within s src table list e =
     let b = and-split (fitsAlone s && fitsTable s table) (fitsSource s src) (a .0) in
     let d = and-split (fitsAlone s) (fitsTable s table) (b .0) in
     let both = leb (s .offset) (s .place) && leb (s .offset) (s .size) in
-    let g = and-split (both && leb 1 (s .lines)) (inRange (fileOf s)) (d .0) in
+    let own = and-split (both && leb 1 (s .lines) && inRange (fileOf s)) (fitsLine s) (d .0) in
+    let g = and-split (both && leb 1 (s .lines)) (inRange (fileOf s)) (own .0) in
     let k = and-split both (leb 1 (s .lines)) (g .0) in
     leb-true _ _ (and-split (leb (s .offset) (s .place)) (leb (s .offset) (s .size)) (k .0) .1)
 
@@ -68,8 +70,11 @@ pub size-small : (s : State) (src table list : List ℕ) → fits s src table li
 size-small s src table list e = omega (arith, fit (fileOf s) table (held s src table list e .fitted) .top)
 
 -- where a run starts
-pub state-start : (s : State) → stateAt s (s .place) (s .mark) (s .lines) ≡ s
-state-start s = let e : s .offset + (s .place - s .place) ≡ s .offset = omega arith in rw e
+pub state-start : (s : State) (src table list : List ℕ) → fits s src table list ≡ true → stateAt s (s .place) (s .mark) (s .lines) table ≡ s
+state-start s src table list h =
+    let e : s .offset + (s .place - s .place) ≡ s .offset = omega arith in
+    let l = held s src table list h .line in
+    λ i. advance s (s .place) (e i) (s .mark) (s .lines) (s .errors) (sym l i)
 
 -- ---- blanks that were found
 module _ (src : List ℕ) (place : ℕ) (mark : Bool) (n : Near) (near : nearAs n ≡ skippedAt place (skip mark (chars (drop place src)))) where
@@ -82,15 +87,15 @@ module _ (src : List ℕ) (place : ℕ) (mark : Bool) (n : Near) (near : nearAs 
 
 -- ---- a step of a run: a simple token after such blanks
 module _ (src : List ℕ) (first : State) (safe : ℕ) (is-safe : IsSafe src first safe) (table list : List ℕ) (place lines : ℕ) (mark : Bool)
-    (over : first .place ≤ place) (low : first .offset ≤ first .size) (holds : fits (stateAt first place mark lines) src table list ≡ true)
+    (over : first .place ≤ place) (low : first .offset ≤ first .size) (holds : fits (stateAt first place mark lines table) src table list ≡ true)
     (n : Near) (near : nearAs n ≡ skippedAt place (skip mark (chars (drop place src)))) (early : n .end < safe)
     {tokens tokens′ : List ℕ} {to : ℕ} {r : Next} (g : Gave src (n .end) safe (first .base + first .offset + (n .end - first .place)) tokens to r tokens′)
-    {table′ : List ℕ} (w : Recorded (stateAt first place mark lines) (nearAs n) table table′) where
+    {table′ : List ℕ} (w : Recorded (stateAt first place mark lines table) (nearAs n) table table′) where
   abbrev here : State
-  here = stateAt first place mark lines
+  here = stateAt first place mark lines table
 
   abbrev there : State
-  there = stateAt first (r .place) (r .mark) (lines + cond (n .lf) 1 0)
+  there = stateAt first (r .place) (r .mark) (lines + cond (n .lf) 1 0) table′
 
   reads : Reads src here (nearAs n) (g .x)
   reads = record { skipped = near; token = g .reads mark }
@@ -140,5 +145,5 @@ module _ (src : List ℕ) (first : State) (safe : ℕ) (is-safe : IsSafe src fir
 
   -- to the count after it, with the line starts that there are then
   pub step : (room count lines′ : ℕ) → to ≡ count * tokenWidth → count < room → lines′ ≡ lines + cond (n .lf) 1 0
-      → Leads room src list here table tokens count (stateAt first (r .place) (r .mark) lines′) table′ tokens′ (count + 1)
+      → Leads room src list here table tokens count (stateAt first (r .place) (r .mark) lines′ table′) table′ tokens′ (count + 1)
   step room count lines′ at h e = rw e (record { fit = step-fits; over = omega arith; within = omega arith; left = step-more room count at h; same = λ z. absurd (omega (arith, z)) })

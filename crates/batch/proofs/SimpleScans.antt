@@ -118,10 +118,10 @@ module _ (src : List ℕ) (s : State) (table list : List ℕ) (b : Skipped) (x :
       token = tokenBy x start (s .base + s .offset + (start - s .place))
 
       abbrev pub next : State
-      next = stateAt s (x .end) (x .mark) (s .lines + b .lfs)
+      next = stateAt s (x .end) (x .mark) (s .lines + b .lfs) table′
 
       answer-is : _≡_ {A = Scanned} (record { refusal = 0; state = next; token = token })
-          (record { refusal = 0; state = stateBy x (s .offset + here) (b .lfs) s; token = token })
+          (record { refusal = 0; state = stateBy x (s .offset + here) (b .lfs) s table′; token = token })
       answer-is = rw (here-is, plain x p .0, add-zero (s .errors))
 
       pub scans : (area : List ℕ) → scanOf src s table list area ≡ gave next token table′ list area

@@ -5,6 +5,7 @@ use mathlib.Core.Bool.{Bool, true, cond}
 use mathlib.Core.List.{List}
 use mathlib.Core.Logic.{_⊎_}
 use lib.ListN.{length, set}
+use Rattle.position.specs.Lines.{lineIn}
 use Rattle.blanks.specs.declared.Skipped.{Skipped}
 use Rattle.state.specs.declared.state.State.{State}
 use Rattle.state.specs.State.{advance}
@@ -14,13 +15,14 @@ use Rattle.batch.specs.declared.step.Reached.{Reached}
 use Rattle.batch.specs.declared.round.Round.{Round}
 use Rattle.batch.specs.Many.{stopped, manyOf, leftAfter}
 
--- the state at a place after simple tokens, whose characters are of one byte each
-abbrev pub stateAt : State → ℕ → Bool → ℕ → State
-stateAt s place mark lines = advance s place (s .offset + (place - s .place)) mark lines (s .errors)
+-- the state at a place after simple tokens, whose characters are of one byte each; the table has the
+-- line starts before it
+abbrev pub stateAt : State → ℕ → Bool → ℕ → List ℕ → State
+stateAt s place mark lines table = advance s place (s .offset + (place - s .place)) mark lines (s .errors) (lineIn table lines)
 
 -- the state where a run has come to
-abbrev pub reached : State → Reached → State
-reached s r = stateAt s (r .place) (r .mark) (r .lines)
+abbrev pub reached : State → Reached → List ℕ → State
+reached s r table = stateAt s (r .place) (r .mark) (r .lines) table
 
 -- from each place before the safe one more than sixteen bytes are in the source, and the offset
 -- stays below the size

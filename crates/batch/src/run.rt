@@ -1,6 +1,7 @@
 // Runs of simple tokens.
 use crate::step::begun;
 use crate::step::next_simple;
+use position::Line;
 use state::State;
 ghost use mathlib.Core.Path.{_≡_};
 ghost use mathlib.Core.Bool.{true};
@@ -17,13 +18,19 @@ pub(crate) struct Run {
     pub(crate) count: usize,
 }
 
-// The state at a place after simple tokens, whose characters are of one byte each.
-fn state_at(first: State, place: usize, mark: bool, lines: usize) -> State
-    requires { ⌜ (first .place ≤ place) × (first .offset + (place - first .place) < 2 ^ 64) ⌝ }
-    ensures { λ r. ⌜ r ≡ stateAt first place mark lines ⌝ }
+// The state at a place after simple tokens, whose characters are of one byte each. The table has the
+// line starts before it, so the loop does not keep the last one.
+fn state_at(first: State, place: usize, mark: bool, lines: usize, table: &[usize]) -> State
+    requires { ⌜ (first .place ≤ place) × (first .offset + (place - first .place) < 2 ^ 64) × (1 ≤ lines) × (lines ≤ length (now table)) ⌝ }
+    ensures { λ r. ⌜ r ≡ stateAt first place mark lines (now (table .entry)) ⌝ }
 {
     let offset = first.offset + (place - first.place);
-    first.advanced(place, offset, mark, lines, first.errors)
+    let start = table[lines - 1];
+    let line = Line {
+        number: lines,
+        start,
+    };
+    first.advanced(place, offset, mark, lines, first.errors, line)
 }
 
 // A place before which simple tokens start: from there more than sixteen bytes are in the source,
@@ -72,7 +79,7 @@ pub(crate) fn run_simple(
             room,
         );
     }
-    let state = state_at(first, at.place, at.mark, at.lines);
+    let state = state_at(first, at.place, at.mark, at.lines, table);
     Run {
         state,
         count: at.count,

@@ -96,7 +96,7 @@ fn record_line(
 ) -> usize
     requires { ⌜ (first .place ≤ place) × (place ≤ blanks .line) × (first .offset + (blanks .line - first .place) < 2 ^ 64)
         × (blanks .lf ≡ true → lines < length (now table)) ⌝ }
-    ensures { λ r. ⌜ Recorded (stateAt first place mark lines) (nearAs blanks) (now (table .entry)) (now (table .exit)) × (r ≡ lines + cond (blanks .lf) 1 0) ⌝ }
+    ensures { λ r. ⌜ Recorded (stateAt first place mark lines (now (table .entry))) (nearAs blanks) (now (table .entry)) (now (table .exit)) × (r ≡ lines + cond (blanks .lf) 1 0) ⌝ }
 {
     if !blanks.lf {
         return lines;
@@ -120,9 +120,9 @@ pub(crate) fn next_simple(
     tokens: &mut [usize],
     room: usize,
 ) -> Reached
-    requires { ⌜ (fits (reached first at) (now src) (now table) (now list) ≡ true) × (first .place ≤ at .place) × IsSafe (now src) first safe
+    requires { ⌜ (fits (reached first at (now table)) (now src) (now table) (now list) ≡ true) × (first .place ≤ at .place) × IsSafe (now src) first safe
         × IsTable (now firsts) × IsKeywords (now keys) (now values) × (at .count < room) × (room * tokenWidth ≤ length (now tokens)) ⌝ }
-    ensures { λ r. ⌜ Leads room (now (src .entry)) (now (list .entry)) (reached first at) (now (table .entry)) (now (tokens .entry)) (at .count) (reached first r) (now (table .exit)) (now (tokens .exit)) (r .count)
+    ensures { λ r. ⌜ Leads room (now (src .entry)) (now (list .entry)) (reached first at (now (table .entry))) (now (table .entry)) (now (tokens .entry)) (at .count) (reached first r (now (table .exit))) (now (table .exit)) (now (tokens .exit)) (r .count)
         × (first .place ≤ r .place) × (r .more ≡ true → (at .count < r .count) × (r .count < room)) ⌝ }
 {
     let blanks = ready_blanks(src, safe, at, table);

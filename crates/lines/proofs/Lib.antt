@@ -3,4 +3,5 @@ pub mod Reading
 pub mod Written
 pub mod Counts
 pub mod Kept
+pub mod Current
 pub mod Joining

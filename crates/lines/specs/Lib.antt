@@ -1,2 +1,4 @@
 pub mod Starts
+pub mod Current
+pub mod LineLaw
 pub mod Joined

@@ -5,6 +5,7 @@ use mathlib.Core.List.{List, [], _∷_}
 use lib.Dec.{ltb}
 use lib.ListN.{length, getD}
 use Rattle.position.specs.declared.Position.{Position}
+use Rattle.position.specs.declared.Line.{Line}
 
 -- the index, from 0, of the first start above the offset, else the count
 unfoldable pub lineOf : List ℕ → ℕ → ℕ
@@ -14,6 +15,14 @@ lineOf (x ∷ xs) o = cond (ltb o x) 0 (suc (lineOf xs o))
 -- the start of a line, whose number counts from 1
 abbrev pub lineStart : List ℕ → ℕ → ℕ
 lineStart starts line = getD starts (line - 1) 0
+
+-- a line by its number
+abbrev pub lineIn : List ℕ → ℕ → Line
+lineIn starts line = record { number = line; start = lineStart starts line }
+
+-- the first line of every text
+abbrev pub firstLine : Line
+firstLine = record { number = 1; start = 0 }
 
 -- the start before the first that is above the offset
 unfoldable pub startOf : List ℕ → ℕ → ℕ

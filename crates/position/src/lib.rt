@@ -20,6 +20,12 @@ pub struct Position {
     pub column: usize,
 }
 
+// A line of a text: its number, from 1, and the offset at which it starts.
+pub struct Line {
+    pub number: usize,
+    pub start: usize,
+}
+
 // What a call gives, or the number of the refusal.
 pub enum Answer {
     Gave(usize),

@@ -12,6 +12,7 @@ use Rattle.utf8.specs.declared.Char.{Char}
 use Rattle.utf8.proofs.Ends.{Ends, ends-drop}
 use Rattle.kinds.specs.Kinds.{EOF}
 use Rattle.lines.specs.Starts.{readLines}
+use Rattle.lines.specs.Current.{readLine}
 use Rattle.lexer.specs.Lexeme.{taken, Shut, bare, raise}
 use Rattle.lexer.proofs.LexLaws.{LexLaws}
 use Rattle.reading.specs.Reading.{Reading, after, opened}
@@ -19,8 +20,9 @@ use Rattle.reading.specs.Run.{Lexer, scanned, next, run, token}
 use Rattle.reading.proofs.Step.{withMore, after-more, token-more, passedOver, after-blank, after-raise, token-raise}
 use Rattle.reading.proofs.Runs.{Within, within-opened, within-after}
 
-pub reading-path : (s u : Reading) → s .rest ≡ u .rest → s .place ≡ u .place → s .offset ≡ u .offset → s .lines ≡ u .lines → s .errors ≡ u .errors → s .mark ≡ u .mark → s ≡ u
-reading-path s u r p o l e m = λ i. record { rest = r i; place = p i; offset = o i; lines = l i; errors = e i; mark = m i }
+pub reading-path : (s u : Reading) → s .rest ≡ u .rest → s .place ≡ u .place → s .offset ≡ u .offset → s .lines ≡ u .lines → s .line ≡ u .line → s .errors ≡ u .errors → s .mark ≡ u .mark
+    → s ≡ u
+reading-path s u r p o l n e m = λ i. record { rest = r i; place = p i; offset = o i; lines = l i; line = n i; errors = e i; mark = m i }
 
 -- what is left ends in a line feed, or nothing is left and no mark is set
 abbrev pub EndsOrDone : Reading → Type 0
@@ -47,10 +49,10 @@ module _ (lex : Lexer) (laws : LexLaws lex) where
   at-end-eof s e f = ap (λ x. x .kind) (at-end s e f)
 
   pub still : (size : ℕ) (s : Reading) → s .rest ≡ [] → s .mark ≡ false → next lex size s ≡ s
-  unfolding next after readLines
+  unfolding next after readLines readLine
   still size s e f =
       ap (λ x. after size x s) (at-end s e f)
-      ∙ reading-path _ _ refl (add-zero (s .place)) (add-zero (s .offset)) refl (append-nil (s .errors)) (sym f)
+      ∙ reading-path _ _ refl (add-zero (s .place)) (add-zero (s .offset)) refl refl (append-nil (s .errors)) (sym f)
 
   -- ---- before EOF, with more text after it
   module _ (size : ℕ) (s : Reading) (k : scanned lex s .kind ≢ EOF) (e : Shut (scanned lex s .error)) where

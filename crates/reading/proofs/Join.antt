@@ -10,11 +10,13 @@ use lib.ListN.{length, drop}
 use Rattle.utf8.specs.declared.Char.{Char}
 use Rattle.utf8.specs.Chars.{widths}
 use Rattle.utf8.proofs.Ends.{Ends}
-use Rattle.position.proofs.Lines.{AtMost}
+use Rattle.position.specs.Lines.{firstLine}
 use Rattle.utf8.specs.Count.{isLf, count}
 use Rattle.lines.specs.Starts.{readLines}
-use Rattle.lines.specs.Joined.{startsOf}
-use Rattle.lines.proofs.Joining.{over-opening, over-drop, read-closed, closed-count, starts-of-at-most}
+use Rattle.lines.specs.Current.{readLine}
+use Rattle.lines.specs.Joined.{startsOf, moveLine}
+use Rattle.lines.proofs.Current.{lastLine, last-line-snoc, read-last-line}
+use Rattle.lines.proofs.Joining.{over-opening, over-drop, read-closed, closed-count}
 use Rattle.lexer.specs.Lexeme.{Shut}
 use Rattle.lexer.proofs.LexLaws.{LexLaws}
 use Rattle.reading.specs.Reading.{Reading, opened}
@@ -28,14 +30,13 @@ use Rattle.reading.proofs.Ending.{reading-path, EndsOrDone, at-end, sti
 record ClosedStarts (size : ℕ) (t : List Char) : Type 0 where
   own : List ℕ
   read : readLines size 0 t (0 ∷ []) ≡ own ++ (length t ∷ [])
-  low : AtMost (length t) own
   counted : length own ≡ count isLf t
 
 closed-starts : (size : ℕ) (t : List Char) → Ends t ⊎ (t ≡ []) → length t < size → ClosedStarts size t
 unfolding readLines
 closed-starts size t (inl h) l =
-    record { own = startsOf t; read = read-closed t h size l; low = starts-of-at-most t; counted = closed-count t h }
-closed-starts size t (inr h) l = subst (ClosedStarts size) (sym h) (record { own = []; read = refl; low = tt; counted = refl })
+    record { own = startsOf t; read = read-closed t h size l; counted = closed-count t h }
+closed-starts size t (inr h) l = subst (ClosedStarts size) (sym h) (record { own = []; read = refl; counted = refl })
 
 module _ (lex : Lexer) (laws : LexLaws lex) (base size : ℕ) (t₁ t₂ : List Char) (a : ℕ) (closed : Ends t₁ ⊎ (t₁ ≡ []))
     (fits : length t₁ + length t₂ ≤ size) (first-end : FirstEnd lex size t₁ a) where
@@ -118,6 +119,12 @@ module _ (lex : Lexer) (laws : LexLaws lex) (base size : ℕ) (t₁ t₂ : List 
   unfolding first
   end-lines = let w = within-run lex laws size t₁ (suc a) in w .lines ∙ ap (λ p. readLines size 0 p (0 ∷ [])) (end-all (w .p) (w .whole))
 
+  end-line : first (suc a) .line ≡ lastLine (readLines size 0 t₁ (0 ∷ []))
+  unfolding first
+  end-line =
+      let w = within-run lex laws size t₁ (suc a) in
+      w .line ∙ ap (λ p. readLine size 0 p firstLine) (end-all (w .p) (w .whole)) ∙ read-last-line size 0 t₁ (0 ∷ [])
+
   end-place : first (suc a) .place ≡ widths t₁
   unfolding first
   end-place = let w = within-run lex laws size t₁ (suc a) in w .place ∙ ap widths (end-all (w .p) (w .whole))
@@ -133,6 +140,13 @@ module _ (lex : Lexer) (laws : LexLaws lex) (base size : ℕ) (t₁ t₂ : List 
     table : ClosedStarts size t₁
     table = closed-starts size t₁ closed (omega arith)
 
+    -- the first line of the second text, in the joined one
+    seam-line : first (suc a) .line ≡ moveLine (length t₁) (length (table .own)) firstLine
+    unfolding moveLine
+    seam-line =
+        let n : length (table .own) + 1 ≡ suc (length (table .own)) = omega arith in
+        end-line ∙ ap lastLine (table .read) ∙ last-line-snoc (table .own) (length t₁) ∙ rw (n, add-zero (length t₁))
+
     -- the second run's reading, in the joined run
     shifted : Reading → Reading
     shifted s = behind (length t₁) (widths t₁) (table .own) (first (suc a) .errors) s
@@ -145,13 +159,14 @@ module _ (lex : Lexer) (laws : LexLaws lex) (base size : ℕ) (t₁ t₂ : List 
         (end-place ∙ sym (add-zero (widths t₁)))
         (end-offset ∙ sym (add-zero (length t₁)))
         (end-lines ∙ table .read ∙ sym (over-opening (length t₁) (table .own)))
+        seam-line
         (sym (append-nil (first (suc a) .errors)))
         end-mark
 
     next-shifted : (j : ℕ) → next lex size (shifted (second j)) ≡ shifted (next lex (size - length t₁) (second j))
     unfolding next second scanned shifted behind
     next-shifted j =
-        after-behind (length t₁) (table .own) (table .low) (widths t₁) size (first (suc a) .errors) (scanned lex (second j)) (second j)
+        after-behind (length t₁) (table .own) (widths t₁) size (first (suc a) .errors) (scanned lex (second j)) (second j)
         (from-zero-run lex (size - length t₁) t₂ j)
 
     run-shifted : (j : ℕ) → run lex size seam j ≡ shifted (second j)

@@ -11,13 +11,16 @@ use lib.Seq.{length-take-le}
 use borrow.Author.Tests.{eqb-true}
 use Rattle.utf8.specs.declared.Char.{Char}
 use Rattle.utf8.specs.Chars.{widths}
-use Rattle.position.specs.Lines.{StrictlyRising}
+use Rattle.position.specs.Lines.{firstLine, StrictlyRising}
 use Rattle.position.proofs.Lines.{FromZero}
 use Rattle.errors.specs.declared.layout.Error.{Error}
 use Rattle.utf8.proofs.Count.{widths-append}
+use Rattle.position.specs.declared.Line.{Line}
 use Rattle.lines.specs.Starts.{readLines}
+use Rattle.lines.specs.Current.{readLine}
 use Rattle.lines.proofs.Reading.{read-append}
 use Rattle.lines.proofs.Kept.{read-rising}
+use Rattle.lines.proofs.Current.{line-read-append}
 use Rattle.lexer.specs.Lexeme.{Lexeme, taken, Shut}
 use Rattle.reading.specs.Reading.{Reading, errorAt, newErrors, after, opened}
 use Rattle.reading.specs.Run.{Lexer, scanned, next, run, token, tokenAt}
@@ -33,16 +36,16 @@ shut-right : (es fs : List Error) → AllShut (es ++ fs) → AllShut fs
 shut-right [] fs h = h
 shut-right (e ∷ es) fs h = shut-right es fs (h .1)
 
-shut-new : (number o : ℕ) (lines : List ℕ) → AllShut (newErrors number o lines) → Shut number
-shut-new number o lines = go (eqb number 0) refl
+shut-new : (number o : ℕ) (line : Line) → AllShut (newErrors number o line) → Shut number
+shut-new number o line = go (eqb number 0) refl
   where
-    go : (none : Bool) → eqb number 0 ≡ none → AllShut (cond none [] (errorAt number o lines ∷ [])) → Shut number
+    go : (none : Bool) → eqb number 0 ≡ none → AllShut (cond none [] (errorAt number o line ∷ [])) → Shut number
     go true e h = let z = eqb-true number 0 e in ((λ q. omega arith), (λ q. omega arith))
     go false e h = h .0
 
 module _ (size : ℕ) (x : Lexeme) (s : Reading) where
   new : List Error
-  new = newErrors (x .error) (s .offset + taken x) (readLines size (s .offset) (take (taken x) (s .rest)) (s .lines))
+  new = newErrors (x .error) (s .offset + taken x) (readLine size (s .offset) (take (taken x) (s .rest)) (s .line))
 
   shut-before : AllShut (after size x s .errors) → AllShut (s .errors)
   unfolding after new
@@ -114,11 +117,12 @@ pub record Within (size : ℕ) (t : List Char) (s : Reading) : Type 0 where
   pub whole : p ++ s .rest ≡ t
   pub offset : s .offset ≡ length p
   pub lines : s .lines ≡ readLines size 0 p (0 ∷ [])
+  pub line : s .line ≡ readLine size 0 p firstLine
   pub place : s .place ≡ widths p
 
 pub within-opened : (size : ℕ) (t : List Char) → Within size t (opened t)
-unfolding readLines
-within-opened size t = record { p = []; whole = refl; offset = refl; lines = refl; place = refl }
+unfolding readLines readLine
+within-opened size t = record { p = []; whole = refl; offset = refl; lines = refl; line = refl; place = refl }
 
 pub within-after : (size : ℕ) (t : List Char) (x : Lexeme) (s : Reading) → taken x ≤ length (s .rest) → Within size t s → Within size t (after size x s)
 unfolding after
@@ -129,5 +133,6 @@ within-after size t x s h w =
       whole = append-assoc (w .p) q (drop (taken x) (s .rest)) ∙ rw take-append-drop (w .whole);
       offset = omega (arith, length-append (w .p) q, length-take-le (taken x) (s .rest) h, w .offset);
       lines = sym (read-append size 0 (w .p) q (0 ∷ []) ∙ rw (zero-add, ← w .offset, ← w .lines));
+      line = sym (line-read-append size 0 (w .p) q firstLine ∙ rw (zero-add, ← w .offset, ← w .line));
       place = sym (widths-append (w .p) q ∙ rw (← w .place));
     }

@@ -11,14 +11,17 @@ use lib.Seq.{take-append-le, drop-append-le, take-append-add, drop-append-add, t
 use Rattle.utf8.specs.declared.Char.{Char}
 use Rattle.utf8.specs.Chars.{widths}
 use Rattle.kinds.specs.Kinds.{EOF}
-use Rattle.position.proofs.Lines.{AtMost, FromZero}
+use Rattle.position.specs.declared.Line.{Line}
+use Rattle.position.proofs.Lines.{FromZero}
 use Rattle.errors.specs.declared.layout.Error.{Error}
 use Rattle.utf8.proofs.Count.{widths-append}
 use Rattle.lines.specs.Starts.{readLines}
-use Rattle.lines.specs.Joined.{over}
+use Rattle.lines.specs.Current.{readLine}
+use Rattle.lines.specs.Joined.{over, moveLine}
 use Rattle.lines.proofs.Reading.{read-append}
 use Rattle.lines.proofs.Kept.{read-from-zero}
-use Rattle.lines.proofs.Joining.{over-read, over-line, over-column}
+use Rattle.lines.proofs.Current.{line-read-append, line-read-moved}
+use Rattle.lines.proofs.Joining.{over-read}
 use Rattle.lexer.specs.Lexeme.{Lexeme, taken, bare, raise}
 use Rattle.reading.specs.Reading.{Reading, errorAt, newErrors, after}
 use Rattle.reading.specs.Run.{token, move}
@@ -26,7 +29,7 @@ use Rattle.reading.specs.Joined.{moveError}
 
 -- ---- more text after what is left
 unfoldable pub withMore : List Char → Reading → Reading
-withMore t s = record { rest = s .rest ++ t; place = s .place; offset = s .offset; lines = s .lines; errors = s .errors; mark = s .mark }
+withMore t s = record { rest = s .rest ++ t; place = s .place; offset = s .offset; lines = s .lines; line = s .line; errors = s .errors; mark = s .mark }
 
 module _ (x : Lexeme) (s : Reading) (t : List Char) (h : taken x ≤ length (s .rest)) where
   pub after-more : (size : ℕ) → after size x (withMore t s) ≡ withMore t (after size x s)
@@ -45,6 +48,7 @@ passedOver size s =
       place = s .place + widths (s .rest);
       offset = s .offset + length (s .rest);
       lines = readLines size (s .offset) (s .rest) (s .lines);
+      line = readLine size (s .offset) (s .rest) (s .line);
       errors = s .errors;
       mark = false;
     }
@@ -65,6 +69,7 @@ module _ (size : ℕ) (x : Lexeme) (s : Reading) (t : List Char) where
         drop-append-add,
         ← add-assoc (s .offset) (length (s .rest)) (x .skipped + x .len),
         read-append,
+        line-read-append,
         widths-append,
         ← add-assoc (s .place),
       )
@@ -82,6 +87,7 @@ behind characters bytes starts errors s =
       place = bytes + s .place;
       offset = characters + s .offset;
       lines = over characters starts (s .lines);
+      line = moveLine characters (length starts) (s .line);
       errors = errors ++ map (moveError characters (length starts)) (s .errors);
       mark = s .mark;
     }
@@ -91,22 +97,24 @@ pub after-from-zero : (size : ℕ) (x : Lexeme) (s : Reading) → FromZero (s .l
 unfolding after
 after-from-zero size x s z = read-from-zero _ _ _ _ z
 
-module _ (n : ℕ) (starts : List ℕ) (low : AtMost n starts) where
-  error-behind : (number o : ℕ) (lines : List ℕ) → FromZero lines → errorAt number (n + o) (over n starts lines) ≡ moveError n (length starts) (errorAt number o lines)
-  unfolding moveError
-  error-behind number o lines z = rw (over-line n starts low lines o, over-column n starts low lines o z)
+module _ (n : ℕ) (starts : List ℕ) where
+  error-behind : (number o : ℕ) (line : Line) → errorAt number (n + o) (moveLine n (length starts) line) ≡ moveError n (length starts) (errorAt number o line)
+  unfolding moveError moveLine
+  error-behind number o line =
+      let e : n + o - (n + line .start) + 1 ≡ o - line .start + 1 = omega arith in
+      rw e
 
-  errors-behind : (number o : ℕ) (lines : List ℕ) → FromZero lines → (before errors : List Error)
-      → (before ++ map (moveError n (length starts)) errors) ++ newErrors number (n + o) (over n starts lines)
-      ≡ before ++ map (moveError n (length starts)) (errors ++ newErrors number o lines)
-  errors-behind number o lines z before errors =
-      append-assoc before (map (moveError n (length starts)) errors) (newErrors number (n + o) (over n starts lines))
+  errors-behind : (number o : ℕ) (line : Line) (before errors : List Error)
+      → (before ++ map (moveError n (length starts)) errors) ++ newErrors number (n + o) (moveLine n (length starts) line)
+      ≡ before ++ map (moveError n (length starts)) (errors ++ newErrors number o line)
+  errors-behind number o line before errors =
+      append-assoc before (map (moveError n (length starts)) errors) (newErrors number (n + o) (moveLine n (length starts) line))
       ∙ ap (λ r. before ++ (map (moveError n (length starts)) errors ++ r)) (new (eqb number 0))
-      ∙ ap (λ r. before ++ r) (sym (map-append (moveError n (length starts)) errors (newErrors number o lines)))
+      ∙ ap (λ r. before ++ r) (sym (map-append (moveError n (length starts)) errors (newErrors number o line)))
     where
-      new : (none : Bool) → cond none [] (errorAt number (n + o) (over n starts lines) ∷ []) ≡ map (moveError n (length starts)) (cond none [] (errorAt number o lines ∷ []))
+      new : (none : Bool) → cond none [] (errorAt number (n + o) (moveLine n (length starts) line) ∷ []) ≡ map (moveError n (length starts)) (cond none [] (errorAt number o line ∷ []))
       new true = refl
-      new false = ap (λ e. e ∷ []) (error-behind number o lines z)
+      new false = ap (λ e. e ∷ []) (error-behind number o line)
 
   pub after-behind : (bytes size : ℕ) (errors : List Error) (x : Lexeme) (s : Reading) → FromZero (s .lines)
       → after size x (behind n bytes starts errors s) ≡ behind n bytes starts errors (after (size - n) x s)
@@ -117,7 +125,8 @@ module _ (n : ℕ) (starts : List ℕ) (low : AtMost n starts) where
         add-assoc n (s .offset) (taken x),
         add-assoc bytes (s .place),
         over-read n starts size (s .offset) cs (s .lines) (z .some),
-        errors-behind (x .error) (s .offset + taken x) (readLines (size - n) (s .offset) cs (s .lines)) (read-from-zero _ _ _ _ z) errors (s .errors),
+        line-read-moved n (length starts) size (s .offset) cs (s .line),
+        errors-behind (x .error) (s .offset + taken x) (readLine (size - n) (s .offset) cs (s .line)) errors (s .errors),
       )
 
 pub token-behind : (base n bytes : ℕ) (starts : List ℕ) (errors : List Error) (x : Lexeme) (s : Reading)

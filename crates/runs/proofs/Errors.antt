@@ -23,8 +23,8 @@ use Rattle.runs.proofs.Played.{r, x, u, gives, view-left, came}
 
 module _ (src area : List ℕ) (h : Held) where
   -- the error of what is read, where it has one
-  abbrev found : Error
-  found = errorAt (x src area h .error) (u src area h .offset) (u src area h .lines)
+  abbrev pub found : Error
+  found = errorAt (x src area h .error) (u src area h .offset) (u src area h .line)
 
   -- what is read has the law
   law : ErrorLaw (x src area h .kind) (x src area h .error)
@@ -40,15 +40,15 @@ module _ (src area : List ℕ) (h : Held) where
       }
 
   -- ---- a call that gives a token: the errors after it, and how many they are
-  after-it : u src area h .errors ≡ errorsIn h ++ newErrors (x src area h .error) (u src area h .offset) (u src area h .lines)
+  after-it : u src area h .errors ≡ errorsIn h ++ newErrors (x src area h .error) (u src area h .offset) (u src area h .line)
   unfolding view next after
   after-it = refl
 
   counted : gives src area h .answer .state .errors ≡ h .state .errors + cond (eqb (x src area h .error) 0) 0 1
-  counted = ap length after-it ∙ errors-after (x src area h .error) (u src area h .offset) (h .state .errors) (h .list) (u src area h .lines)
+  counted = ap length after-it ∙ errors-after (x src area h .error) (u src area h .offset) (h .state .errors) (h .list) (u src area h .line)
 
   module _ (room : length (u src area h .errors) ≤ roomOf (h .list)) where
-    in-list : errorsIn (left (gives src area h)) ≡ errorsIn h ++ newErrors (x src area h .error) (u src area h .offset) (u src area h .lines)
+    pub in-list : errorsIn (left (gives src area h)) ≡ errorsIn h ++ newErrors (x src area h .error) (u src area h .offset) (u src area h .line)
     unfolding view
     in-list = ap (λ (v : Reading). v .errors) (view-left src area h room) ∙ after-it
 
@@ -56,7 +56,7 @@ module _ (src area : List ℕ) (h : Held) where
     adds e = record { accepted = refl; count = counted ∙ rw (ne-eqb (x src area h .error) 0 e) (omega arith); list = in-list ∙ rw (ne-eqb (x src area h .error) 0 e); place = refl; number = e }
 
     -- where the errors change, what is read has an error
-    read-has : errorsIn (left (gives src area h)) ≢ errorsIn h → x src area h .error ≢ 0
+    pub read-has : errorsIn (left (gives src area h)) ≢ errorsIn h → x src area h .error ≢ 0
     read-has n z = n (in-list ∙ rw (eq-eqb (x src area h .error) 0 z) (append-nil (errorsIn h)))
 
     gave : AnswerErrors src h (gives src area h)

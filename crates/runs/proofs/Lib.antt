@@ -6,6 +6,7 @@ pub mod Errors
 pub mod Accepted
 pub mod Parts
 pub mod Room
+pub mod Lines
 pub mod Progress
 pub mod Closing
 pub mod Joined

@@ -82,8 +82,8 @@ module _ (src area : List ℕ) (h : Held) where
   pub view-left : length (u .errors) ≤ roomOf (h .list) → viewOf src (left gives) ≡ u
   unfolding view next after placed scanned
   view-left room =
-      reading-path (viewOf src (left gives)) u (place-chars (x .skipped + x .len) src (s .place)) refl refl (take-append-seam (u .lines) _)
-      (errors-left (eqb (x .error) 0) (s .errors) (h .list) (errorAt (x .error) (u .offset) (u .lines)) room) refl
+      reading-path (viewOf src (left gives)) u (place-chars (x .skipped + x .len) src (s .place)) refl refl (take-append-seam (u .lines) _) refl
+      (errors-left (eqb (x .error) 0) (s .errors) (h .list) (errorAt (x .error) (u .offset) (u .line)) room) refl
 
   module _ (k : Fitting s src (h .table) (h .list)) where
     start-fits : start ≤ length src

@@ -49,6 +49,7 @@ fit-accepted {src} {base} {size} {h} a =
             fitted = fit-true _ _ g;
             offset = rw e (omega arith);
             last = rw (e, z .first) (omega arith);
+            line = rw (e, z .first);
             place = rw e (omega arith);
             errors = rw e (omega arith);
           };

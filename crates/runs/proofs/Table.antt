@@ -23,7 +23,7 @@ use Rattle.lexer.specs.Comments.{comment, lexComment}
 use Rattle.lexer.specs.Lex.{lexSlash, lexBy, lexToken, lex}
 use Rattle.lexer.specs.Placed as Placed
 use Rattle.lines.specs.Starts.{readLines}
-use Rattle.position.specs.Lines.{lineOf, startOf, columnOf}
+use Rattle.lines.specs.Current.{readLine}
 use Rattle.position.specs.Place.{inRange, fitting}
 use Rattle.errors.specs.Layout.{numbers, recordAt}
 use Rattle.errors.specs.Errors.{errorsOf}
@@ -46,7 +46,7 @@ abbrev _also_ : {A B : Type 0} → A → B → A × B
 _also_ a b = (a, b)
 
 pub table-holds : TableHolds
-unfolding rows same charsFrom firstChar octets encode keywords kindNamed digitVal isLetter isWord wordLen isSpace isBlank skip digitRun finish decimalRest decimal prefixed bareZero leadingZero withoutI number numberText escapeDigits letter byteOf octalEscape escapeOf bodyFrom toStop toStarSlash clean blankToEnd endsLine wordLexeme lexNumber lexString lexChar lexRaw comment lexComment lexSlash lexBy lexToken lex Placed.placed readLines lineOf startOf columnOf inRange fitting numbers recordAt errorsOf after fresh openOf shownOf view scanBy scanOf call play tokens
+unfolding rows same charsFrom firstChar octets encode keywords kindNamed digitVal isLetter isWord wordLen isSpace isBlank skip digitRun finish decimalRest decimal prefixed bareZero leadingZero withoutI number numberText escapeDigits letter byteOf octalEscape escapeOf bodyFrom toStop toStarSlash clean blankToEnd endsLine wordLexeme lexNumber lexString lexChar lexRaw comment lexComment lexSlash lexBy lexToken lex Placed.placed readLines readLine inRange fitting numbers recordAt errorsOf after fresh openOf shownOf view scanBy scanOf call play tokens
 table-holds =
     record { accepted = record { lent = replicate 4 0; opening = refl }; gives = refl; shown = shown 1; errors = refl } also
     record { accepted = record { lent = replicate 4 0; opening = refl }; gives = refl; shown = shown 3; errors = refl } also

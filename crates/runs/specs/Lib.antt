@@ -3,3 +3,4 @@ pub mod Progress
 pub mod Joined
 pub mod Table
 pub mod Errors
+pub mod Lines

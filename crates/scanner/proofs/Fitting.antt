@@ -1,17 +1,18 @@
 -- Behind a scan that is not refused the state fits again: the source, and the buffers as they were left.
 use Prim.Native.Nat.{ℕ, zero, suc, _+_, _-_, _*_, _/_, _≤_}
-use mathlib.Core.Path.{_≡_, refl, ap}
+use mathlib.Core.Path.{_≡_, refl, sym, ap, _∙_}
 use mathlib.Core.Bool.{Bool, true, false, cond, not}
 use mathlib.Core.List.{List, [], _∷_}
 use native.Mathlib.Omega.{arith}
 use lib.Dec.{eqb, ltb}
 use lib.ListN.{length, take, drop, length-append, List·getD-append}
 use lib.Seq.{sets, length-sets, length-take-le}
-use borrow.Author.Tests.{le-leb, ltb-false}
+use borrow.Author.Tests.{le-leb, eq-eqb, ltb-false}
 use Rattle.basics.proofs.Choice.{cond-ind}
 use Rattle.utf8.specs.declared.Char.{Char}
 use Rattle.utf8.specs.Chars.{chars, widths}
 use Rattle.utf8.proofs.Places.{place-fits}
+use Rattle.position.specs.declared.Line.{Line}
 use Rattle.position.specs.Lines.{lineStart}
 use Rattle.position.specs.Place.{inRange}
 use Rattle.position.proofs.Lines.{FromZero, from-zero-append}
@@ -20,7 +21,9 @@ use Rattle.errors.specs.Layout.{width, numbers}
 use Rattle.errors.specs.Errors.{roomOf}
 use Rattle.utf8.specs.Count.{count}
 use Rattle.utf8.proofs.Count.{count-fits}
+use Rattle.lines.specs.Current.{readLine}
 use Rattle.lines.proofs.Kept.{read-last}
+use Rattle.lines.proofs.Current.{lastLine, take-line, read-last-line}
 use Rattle.lexer.specs.Lexeme.{Lexeme, taken}
 use Rattle.lexer.specs.Lex.{lex}
 use Rattle.lexer.specs.Placed.{Placed, placed}
@@ -28,22 +31,34 @@ use Rattle.lexer.proofs.Laws.{lex-laws}
 use Rattle.reading.specs.Reading.{Reading, errorAt, after}
 use Rattle.reading.proofs.Step.{after-from-zero}
 use Rattle.state.specs.declared.state.State.{State}
-use Rattle.state.specs.Fits.{fileOf, fits}
+use Rattle.state.specs.Fits.{fileOf, fitsLine, fits}
 use Rattle.scanner.specs.Scan.{view, written, tokenStart, toArea, tokenOf, refusalOf, ScanLeft, stateOf, withError, gaveBy, unless, scanBy, scanOf}
 use Rattle.scanner.proofs.Scans.{Held, held}
+
+-- a state whose line is the last
+line-fits : (s : State) → s .line .number ≡ s .lines → s .line .start ≤ s .offset → (s .lines ≡ 1 → s .line .start ≡ 0) → 1 ≤ s .lines → fitsLine s ≡ true
+line-fits s n l z some = rw (eq-eqb _ _ n, le-leb _ _ l) (go (ltb 1 (s .lines)) refl)
+  where
+    go : (t : Bool) → ltb 1 (s .lines) ≡ t → cond t true (eqb (s .line .start) 0) ≡ true
+    go true e = refl
+    go false e = eq-eqb _ _ (z (omega (arith, ltb-false 1 (s .lines) e, some)))
 
 -- a state with all that fitting asks
 pub fits-held : (s : State) (src table list : List ℕ) → Held s src table list → s .offset ≤ s .size → fits s src table list ≡ true
 fits-held s src table list k h =
     let g = fit (fileOf s) table (k .fitted) in
     let top : inRange (fileOf s) ≡ true = unfold inRange in le-leb _ _ (g .top) in
+    let at : lineStart table (s .lines) ≡ s .line .start = sym (ap (λ (l : Line). l .start) (k .line)) in
+    let start : eqb (lineStart table (s .lines)) (s .line .start) ≡ true = eq-eqb _ _ at in
+    let own = line-fits s (ap (λ (l : Line). l .number) (k .line)) (omega (arith, at, k .last)) (λ e. sym at ∙ rw e (g .first)) (g .some) in
     rw (
       le-leb _ _ (k .offset),
       le-leb (s .offset) (s .size) h,
       le-leb _ _ (g .some),
       top,
+      own,
       k .fitted,
-      le-leb _ _ (k .last),
+      start,
       le-leb _ _ (k .place),
       le-leb _ _ (k .errors),
     )
@@ -56,9 +71,9 @@ counted (c ∷ cs) = omega (arith, counted cs)
 -- an error is written within the list
 room-with : (number n : ℕ) (list : List ℕ) (u : Reading) → roomOf (withError number n list u) ≡ roomOf list
 room-with number n list u =
-    cond-ind (λ l. roomOf l ≡ roomOf list) (eqb number 0) list (sets list (n * width) (numbers (errorAt number (u .offset) (u .lines))))
+    cond-ind (λ l. roomOf l ≡ roomOf list) (eqb number 0) list (sets list (n * width) (numbers (errorAt number (u .offset) (u .line))))
     (λ _. refl)
-    (λ _. ap (λ k. k / width) (length-sets list (n * width) (numbers (errorAt number (u .offset) (u .lines)))))
+    (λ _. ap (λ k. k / width) (length-sets list (n * width) (numbers (errorAt number (u .offset) (u .line)))))
 
 last-written : (starts table : List ℕ) → 1 ≤ length starts → lineStart (written starts table) (length starts) ≡ lineStart starts (length starts)
 last-written starts table h = List·getD-append starts (drop (length starts) table) 0 (length starts - 1) (omega arith)
@@ -81,6 +96,7 @@ module _ (src : List ℕ) (s : State) (table list : List ℕ) (k : Held s src ta
         });
         offset = omega (arith, k .offset, wide, counted cs, taken-is);
         last = rw (last-written (v .lines) table (starts .some)) (omega (arith, last, taken-is));
+        line = line ∙ (λ i. record { number = length (v .lines); start = sym (last-written (v .lines) table (starts .some)) i });
         place = place-fits (taken y) src (s .place) (k .place);
         errors = rw (room-with (y .error) (s .errors) list v) inList;
       }
@@ -102,6 +118,11 @@ module _ (src : List ℕ) (s : State) (table list : List ℕ) (k : Held s src ta
 
       last : lineStart (v .lines) (length (v .lines)) ≤ s .offset + length cs
       last = read-last (s .size) (s .offset) cs (take (s .lines) table) (rw (last-start (fileOf s) table g) (k .last))
+
+      line : readLine (s .size) (s .offset) cs (s .line) ≡ lastLine (v .lines)
+      line =
+          ap (readLine (s .size) (s .offset) cs) (k .line ∙ sym (take-line table (s .lines) (g .some) (g .held)))
+          ∙ read-last-line (s .size) (s .offset) cs (take (s .lines) table)
 
 -- ---- a scan
 -- one that is not refused gave something

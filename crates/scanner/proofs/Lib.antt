@@ -1,9 +1,9 @@
 pub mod Areas
-pub mod Recorded
 pub mod Pass
 pub mod Refusals
 pub mod Scans
 pub mod Fitting
+pub mod TableLaw
 pub mod Committed
 pub mod LineStarts
 pub mod Ends

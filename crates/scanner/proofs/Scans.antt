@@ -5,21 +5,23 @@ use mathlib.Core.Bool.{Bool, true, false, cond, _&&_}
 use mathlib.Core.List.{List, [], _∷_, _++_}
 use native.Mathlib.Omega.{arith}
 use native.Mathlib.Nat.{add-zero, add-assoc}
-use lib.Dec.{eqb}
+use lib.Dec.{eqb, leb}
 use lib.ListN.{length, take, drop, length-append}
 use lib.Seq.{sets, sets-eq, length-take-le}
-use borrow.Author.Tests.{leb-true}
+use borrow.Author.Tests.{leb-true, eqb-true}
 use Rattle.basics.proofs.Choice.{and-split}
 use Rattle.utf8.specs.Chars.{widths}
-use Rattle.position.specs.Lines.{lineStart}
+use Rattle.position.specs.declared.Line.{Line}
+use Rattle.position.specs.Lines.{lineStart, lineIn}
 use Rattle.position.specs.Place.{fitting, inRange}
 use Rattle.position.proofs.Place.{fit, last-start}
 use Rattle.errors.specs.Layout.{width, numbers}
 use Rattle.errors.specs.Errors.{errorsOf, roomOf}
 use Rattle.errors.proofs.Laws.{errors-length}
 use Rattle.lines.specs.Starts.{readLines}
+use Rattle.lines.specs.Current.{readLine}
 use Rattle.lines.proofs.Reading.{read-new}
-use Rattle.lines.proofs.Written.{sets-take}
+use Rattle.lines.proofs.Current.{lastLine, take-line, sets-line, read-last-line}
 use Rattle.blanks.specs.Blank.{skip}
 use Rattle.lexer.specs.declared.lexed.Lexed.{Lexed}
 use Rattle.lexer.specs.Lexeme.{Lexeme, raise}
@@ -27,7 +29,8 @@ use Rattle.lexer.specs.Lex.{lex}
 use Rattle.lexer.specs.Placed.{Placed, placed, said}
 use Rattle.reading.specs.Reading.{Reading, errorAt, newErrors, after}
 use Rattle.state.specs.declared.state.State.{State}
-use Rattle.state.specs.Fits.{fileOf, fitsAlone, fitsTable, fitsSource, fitsList, fits}
+use Rattle.state.specs.State.{advance}
+use Rattle.state.specs.Fits.{fileOf, fitsLine, fitsAlone, fitsTable, fitsSource, fitsList, fits}
 use Rattle.scanner.specs.Scan.{view, written, tokenStart, toArea, tokenOf, refusalOf, ScanLeft, refusedBy, stateOf, withError, gaveBy, unless, scanBy, scanOf}
 use Rattle.scanner.specs.Steps.{refusalBy, stateBy, tokenBy, startsFrom, Ready, leftOf, commitOf}
 use Rattle.scanner.proofs.Refusals.{passed}
@@ -38,6 +41,7 @@ pub record Held (s : State) (src table list : List ℕ) : Type 0 where
   pub fitted : fitting (fileOf s) table ≡ true
   pub offset : s .offset ≤ s .place
   pub last : lineStart table (s .lines) ≤ s .offset
+  pub line : s .line ≡ lineIn table (s .lines)
   pub place : s .place ≤ length src
   pub errors : s .errors ≤ roomOf list
 
@@ -47,11 +51,17 @@ held s src table list e =
     let b = and-split (fitsAlone s && fitsTable s table) (fitsSource s src) (a .0) in
     let d = and-split (fitsAlone s) (fitsTable s table) (b .0) in
     let f = and-split (fitting (fileOf s) table) _ (d .1) in
-    let g = and-split _ (inRange (fileOf s)) (d .0) in
+    let own = and-split _ (fitsLine s) (d .0) in
+    let g = and-split _ (inRange (fileOf s)) (own .0) in
+    let l = and-split (eqb (s .line .number) (s .lines) && leb (s .line .start) (s .offset)) _ (own .1) in
+    let m = and-split (eqb (s .line .number) (s .lines)) (leb (s .line .start) (s .offset)) (l .0) in
+    let number = eqb-true (s .line .number) (s .lines) (m .0) in
+    let start = eqb-true (lineStart table (s .lines)) (s .line .start) (f .1) in
     record {
       fitted = f .0;
       offset = leb-true _ _ (and-split _ _ (and-split _ _ (g .0) .0) .0);
-      last = leb-true _ _ (f .1);
+      last = rw start (leb-true _ _ (m .1));
+      line = λ i. record { number = number i; start = sym start i };
       place = leb-true _ _ (b .1);
       errors = leb-true _ _ (a .1);
     }
@@ -62,11 +72,11 @@ written-behind buffer n xs h =
     rw (length-append (take n buffer) xs, length-take-le n buffer (omega arith)) (sym (sets-eq xs buffer n h))
 
 -- how many errors there are with those of a lexeme
-pub errors-after : (number offset n : ℕ) (list lines : List ℕ) → length (errorsOf n list ++ newErrors number offset lines) ≡ n + cond (eqb number 0) 0 1
-errors-after number offset n list lines =
-    length-append (errorsOf n list) (newErrors number offset lines) ∙ rw (errors-length n list) (ap (λ k. n + k) (go (eqb number 0)))
+pub errors-after : (number offset n : ℕ) (list : List ℕ) (line : Line) → length (errorsOf n list ++ newErrors number offset line) ≡ n + cond (eqb number 0) 0 1
+errors-after number offset n list line =
+    length-append (errorsOf n list) (newErrors number offset line) ∙ rw (errors-length n list) (ap (λ k. n + k) (go (eqb number 0)))
   where
-    go : (t : Bool) → length (cond t [] (errorAt number offset lines ∷ [])) ≡ cond t 0 1
+    go : (t : Bool) → length (cond t [] (errorAt number offset line ∷ [])) ≡ cond t 0 1
     go true = refl
     go false = refl
 
@@ -122,13 +132,24 @@ module _ (src : List ℕ) (s : State) (table list area : List ℕ) (k : Held s s
         place = x .end;
         offset = s .offset + taken′;
         lines = take (s .lines) table ++ new;
-        errors = errorsOf (s .errors) list ++ newErrors (x .error) (s .offset + taken′) (take (s .lines) table ++ new);
+        line = lastLine (take (s .lines) table ++ new);
+        errors = errorsOf (s .errors) list ++ newErrors (x .error) (s .offset + taken′) (lastLine (take (s .lines) table ++ new));
         mark = x .mark;
       }
 
   -- ---- the definition's names for these
   last-kept : lineStart (take (s .lines) table) (length (take (s .lines) table)) ≤ s .offset
   last-kept = rw (last-start (fileOf s) table (fit (fileOf s) table (k .fitted))) (k .last)
+
+  lines-read : readLines (s .size) (s .offset) (take taken′ (left src s start)) (take (s .lines) table) ≡ take (s .lines) table ++ new
+  lines-read = read-new (s .size) (s .offset) (take taken′ (left src s start)) (take (s .lines) table) last-kept
+
+  line-read : readLine (s .size) (s .offset) (take taken′ (left src s start)) (s .line) ≡ lastLine (take (s .lines) table ++ new)
+  line-read =
+      let g = fit (fileOf s) table (k .fitted) in
+      ap (readLine (s .size) (s .offset) (take taken′ (left src s start))) (k .line ∙ sym (take-line table (s .lines) (g .some) (g .held)))
+      ∙ read-last-line (s .size) (s .offset) (take taken′ (left src s start)) (take (s .lines) table)
+      ∙ ap lastLine lines-read
 
   token-error : token src s start .error ≡ x .error
   unfolding said placed
@@ -141,13 +162,14 @@ module _ (src : List ℕ) (s : State) (table list area : List ℕ) (k : Held s s
   -- after so many characters
   abbrev by : ℕ → Reading
   by t =
-      let lines = readLines (s .size) (s .offset) (take t (left src s start)) (take (s .lines) table) in
+      let line = readLine (s .size) (s .offset) (take t (left src s start)) (s .line) in
       record {
         rest = drop t (left src s start);
         place = s .place + widths (take t (left src s start));
         offset = s .offset + t;
-        lines = lines;
-        errors = errorsOf (s .errors) list ++ newErrors (token src s start .error) (s .offset + t) lines;
+        lines = readLines (s .size) (s .offset) (take t (left src s start)) (take (s .lines) table);
+        line = line;
+        errors = errorsOf (s .errors) list ++ newErrors (token src s start .error) (s .offset + t) line;
         mark = token src s start .mark;
       }
 
@@ -158,7 +180,8 @@ module _ (src : List ℕ) (s : State) (table list area : List ℕ) (k : Held s s
   by-read : by taken′ ≡ u
   by-read =
       rw (
-        read-new (s .size) (s .offset) (take taken′ (left src s start)) (take (s .lines) table) last-kept,
+        lines-read,
+        line-read,
         end-read src s start at x e,
         token-error,
         token-mark,
@@ -196,14 +219,17 @@ module _ (src : List ℕ) (s : State) (table list area : List ℕ) (k : Held s s
   lines-length =
       rw (length-append (take (s .lines) table) new, length-take-le (s .lines) table (fit (fileOf s) table (k .fitted) .held))
 
+  errors-counted : length (u .errors) ≡ s .errors + cond (eqb (x .error) 0) 0 1
+  errors-counted = errors-after (x .error) (s .offset + taken′) (s .errors) list (lastLine (take (s .lines) table ++ new))
+
   module _ (holds : fits s src table list ≡ true) where
     refusal-is : refusalOf (fits s src table list) (s .size) u (length table) (roomOf list) (length (toArea p)) (length area)
         ≡ refusalBy x (s .offset + taken′) (length new) s (length table) (roomOf list) (length area)
     refusal-is =
         rw (
           holds,
+          errors-counted,
           lines-length,
-          errors-after (x .error) (s .offset + taken′) (s .errors) list (take (s .lines) table ++ new),
           area-length src s start at x e,
         )
 
@@ -225,13 +251,16 @@ module _ (src : List ℕ) (s : State) (table list area : List ℕ) (k : Held s s
       token-is =
           rw (add-zero n, ← add-assoc (s .base) (s .offset) n, text-length src s start at x e, value-length src s start at x e)
 
-      state-is : stateOf s u ≡ stateBy x (s .offset + taken′) (length new) s
-      state-is = rw (lines-length, errors-after (x .error) (s .offset + taken′) (s .errors) list (take (s .lines) table ++ new))
-
       module _ (room : s .lines + length new ≤ length table) where
+        line-is : lastLine (take (s .lines) table ++ new) ≡ lineIn (sets table (s .lines) new) (s .lines + length new)
+        line-is = sets-line table (s .lines) new (fit (fileOf s) table (k .fitted) .some) room
+
+        state-is : stateOf s u ≡ stateBy x (s .offset + taken′) (length new) s (sets table (s .lines) new)
+        state-is = λ i. advance s (x .end) (s .offset + taken′) (x .mark) (lines-length i) (errors-counted i) (line-is i)
+
         list-is : withError (x .error) (s .errors) list u
-            ≡ cond (eqb (x .error) 0) list (sets list (s .errors * width) (numbers (errorAt (x .error) (s .offset + taken′) (take (s .lines + length new) (sets table (s .lines) new)))))
-        list-is = rw (sets-take table (s .lines) new room)
+            ≡ cond (eqb (x .error) 0) list (sets list (s .errors * width) (numbers (errorAt (x .error) (s .offset + taken′) (lineIn (sets table (s .lines) new) (s .lines + length new)))))
+        list-is = ap (λ (l : Line). cond (eqb (x .error) 0) list (sets list (s .errors * width) (numbers (errorAt (x .error) (s .offset + taken′) l)))) line-is
 
         gave-is : gaveBy s p (tokenOf (s .base) start r p) u table list area ≡ commitOf src s start x taken′ (length new) table list area
         unfolding commitOf leftOf said
@@ -258,6 +287,7 @@ module _ (src : List ℕ) (s : State) (table list area : List ℕ) (k : Held s s
           record {
             counted = counted;
             fitted = k .fitted;
+            last = k .last;
             sized = passes .sized;
             tableRoom = passes .tableRoom;
             listRoom = passes .listRoom;

@@ -93,6 +93,7 @@ module _ (src : List ℕ) (s : State) (table list : List ℕ) (b : Skipped) (x :
       ready : length src < 2 ^ 63 → QuickReady src s b x table
       ready short =
           record {
+            some = fit (fileOf s) table (kept .fitted) .some;
             behind = behind;
             starts = blanks-starts src s (b .end) at feeds (omega arith) (pass.read-bound src s (b .end) at x (k .reads .token)) l;
             tableRoom = omega (arith, lines-fit);
@@ -115,16 +116,16 @@ module _ (src : List ℕ) (s : State) (table list : List ℕ) (b : Skipped) (x :
 
       -- and that has no line feed but perhaps its last byte
       given : endsInFeed src x ≡ true → {after : List ℕ} {r : Tried} → after ≡ sets table (s .lines) (startsFrom src s (b .end - s .place) ++ startAfter x (s .offset + read))
-          → r ≡ quickToken s b x (s .offset + read) → Tries src s table list r after
-      given f {r = r} w e = (
+          → r ≡ quickToken s b x (s .offset + read) after → Tries src s table list r after
+      given f {after} {r} w e = (
         λ d. absurd (true≢false (sym (ap (λ (y : Tried). y .done) e) ∙ d)),
         λ _ area.
             scan-gave src s table list area kept (b .end) at x (k .reads .token) (k .holds) (b .lfs + x .lfs) counted (not-refused area)
-            ∙ sym
-            (commit-plain-is src s (b .end) x read (b .lfs + x .lfs) table list area p
-            (w ∙ ap (sets table (s .lines)) (sym (starts-parted src s (b .end) at x (k .reads .token) l f)))
-            (rw (e, plain x p .0, add-zero))),
+            ∙ sym (commit-plain-is src s (b .end) x read (b .lfs + x .lfs) table list area p written (rw (e, plain x p .0, add-zero))),
       )
+        where
+          written : after ≡ sets table (s .lines) (startsFrom src s read)
+          written = w ∙ ap (sets table (s .lines)) (sym (starts-parted src s (b .end) at x (k .reads .token) l f))
 
   -- ---- what passes both tests
   module _ (q : isQuick src s x (s .offset + n) ≡ true) (g : b .lfs + x .lfs ≤ length table - s .lines) where
@@ -138,5 +139,5 @@ module _ (src : List ℕ) (s : State) (table list : List ℕ) (b : Skipped) (x :
     quick-ready = ready (passed .0) (passed .1) g
 
     pub tries-done : {after : List ℕ} {r : Tried} → after ≡ sets table (s .lines) (startsFrom src s (b .end - s .place) ++ startAfter x (s .offset + n))
-        → r ≡ quickToken s b x (s .offset + n) → Tries src s table list r after
+        → r ≡ quickToken s b x (s .offset + n) after → Tries src s table list r after
     tries-done w e = given (passed .0) (passed .1) g (passed .2) (rw (sym (k .chars)) w) (rw (sym (k .chars)) e)

@@ -1,3 +1,4 @@
 pub mod Scan
+pub mod TableLaw
 pub mod Steps
 pub mod Quick

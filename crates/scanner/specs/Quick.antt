@@ -6,6 +6,7 @@ use mathlib.Core.Bool.{Bool, true, false, cond, _&&_}
 use mathlib.Core.List.{List, [], _∷_}
 use lib.Dec.{eqb, ltb}
 use lib.ListN.{length, getD}
+use Rattle.position.specs.Lines.{lineIn}
 use Rattle.blanks.specs.declared.Skipped.{Skipped}
 use Rattle.lexer.specs.declared.lexed.Lexed.{Lexed}
 use Rattle.state.specs.declared.state.State.{State}
@@ -33,6 +34,7 @@ isQuick src s x offset = isPlain x && ltb offset (s .size) && endsInFeed src x
 -- what such a token after blanks is given by: the starts of the blanks, room in the table, and
 -- numbers that fit
 pub record QuickReady (src : List ℕ) (s : State) (b : Skipped) (x : Lexed) (table : List ℕ) : Type 0 where
+  pub some : 1 ≤ s .lines
   pub behind : s .place ≤ b .end
   pub starts : b .lfs ≡ length (startsFrom src s (b .end - s .place))
   pub tableRoom : s .lines + (b .lfs + x .lfs) ≤ length table
@@ -41,12 +43,13 @@ pub record QuickReady (src : List ℕ) (s : State) (b : Skipped) (x : Lexed) (ta
   pub value : x .«value_differs» ≡ false
   pub bytes : b .end + 1 + textLen x + valueLen x < 2 ^ 64
 
--- the state after it, and the token
-abbrev pub quickToken : State → Skipped → Lexed → ℕ → Tried
-quickToken s b x offset =
+-- the state after it, with the table that has its line starts, and the token
+abbrev pub quickToken : State → Skipped → Lexed → ℕ → List ℕ → Tried
+quickToken s b x offset table =
+    let lines = s .lines + (b .lfs + x .lfs) in
     record {
       done = true;
-      state = advance s (x .end) offset (x .mark) (s .lines + (b .lfs + x .lfs)) (s .errors);
+      state = advance s (x .end) offset (x .mark) lines (s .errors) (lineIn table lines);
       token = tokenBy x (b .end) (positionBy s (b .end));
     }
 

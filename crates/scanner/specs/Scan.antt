@@ -30,6 +30,7 @@ view src s table list =
       place = s .place;
       offset = s .offset;
       lines = take (s .lines) table;
+      line = s .line;
       errors = errorsOf (s .errors) list;
       mark = s .mark;
     }
@@ -118,11 +119,11 @@ refusedBy n s table list area =
 
 -- the state that says how far a source has been read
 abbrev pub stateOf : State → Reading → State
-stateOf s u = advance s (u .place) (u .offset) (u .mark) (length (u .lines)) (length (u .errors))
+stateOf s u = advance s (u .place) (u .offset) (u .mark) (length (u .lines)) (length (u .errors)) (u .line)
 
 -- the list with the error of a lexeme, if it has one, after the first n
 abbrev pub withError : ℕ → ℕ → List ℕ → Reading → List ℕ
-withError number n list u = cond (eqb number 0) list (sets list (n * width) (numbers (errorAt number (u .offset) (u .lines))))
+withError number n list u = cond (eqb number 0) list (sets list (n * width) (numbers (errorAt number (u .offset) (u .line))))
 
 -- a scan that reads a lexeme, which lies in the source as p says, and comes to u
 abbrev pub gaveBy : State → Placed → Token → Reading → List ℕ → List ℕ → List ℕ → ScanLeft

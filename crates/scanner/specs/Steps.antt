@@ -9,6 +9,7 @@ use lib.Seq.{sets}
 use Rattle.utf8.specs.Chars.{chars}
 use Rattle.kinds.specs.Kinds.{STRING}
 use Rattle.lines.specs.Starts.{startsRead}
+use Rattle.position.specs.Lines.{lineStart, lineIn}
 use Rattle.position.specs.Place.{fitting}
 use Rattle.errors.specs.Layout.{width, numbers}
 use Rattle.errors.specs.Errors.{roomOf}
@@ -48,9 +49,11 @@ refusalBy x offset starts s table list area =
     })
     (record { offset = s .size; lines = table; errors = list; bytes = area })
 
--- the state after a token that ends at an offset and records so many line starts
-abbrev pub stateBy : Lexed → ℕ → ℕ → State → State
-stateBy x offset starts s = advance s (x .end) offset (x .mark) (s .lines + starts) (s .errors + cond (eqb (x .error) 0) 0 1)
+-- the state after a token that ends at an offset and records so many line starts, with the table
+-- that has them
+abbrev pub stateBy : Lexed → ℕ → ℕ → State → List ℕ → State
+stateBy x offset starts s table =
+    advance s (x .end) offset (x .mark) (s .lines + starts) (s .errors + cond (eqb (x .error) 0) 0 1) (lineIn table (s .lines + starts))
 
 -- the token that was read at a place, with its position
 abbrev pub tokenBy : Lexed → ℕ → ℕ → Token
@@ -91,6 +94,7 @@ pub record Known (src : List ℕ) (s : State) (table list : List ℕ) (b : Skipp
 pub record Ready (src : List ℕ) (s : State) (start : ℕ) (x : Lexed) (read starts : ℕ) (table list area : List ℕ) : Type 0 where
   pub counted : starts ≡ length (startsFrom src s read)
   pub fitted : fitting (fileOf s) table ≡ true
+  pub last : lineStart table (s .lines) ≤ s .offset
   pub sized : s .offset + read ≤ s .size
   pub tableRoom : s .lines + starts ≤ length table
   pub listRoom : s .errors + cond (eqb (x .error) 0) 0 1 ≤ roomOf list
@@ -118,7 +122,7 @@ leftOf src s start x read starts table list area =
       table = table′;
       list =
           cond (eqb (x .error) 0) list
-          (sets list (s .errors * width) (numbers (errorAt (x .error) (s .offset + read) (take (s .lines + starts) table′))));
+          (sets list (s .errors * width) (numbers (errorAt (x .error) (s .offset + read) (lineIn table′ (s .lines + starts)))));
       area = written (toArea (said src start x)) area;
     }
 
@@ -135,5 +139,6 @@ commitOf src s start x read starts table list area =
       table = l .table;
       list = l .list;
       area = l .area;
-      answer = record { refusal = 0; state = stateBy x (s .offset + read) starts s; token = tokenBy x start (positionBy s start) };
+      answer =
+          record { refusal = 0; state = stateBy x (s .offset + read) starts s (l .table); token = tokenBy x start (positionBy s start) };
     }

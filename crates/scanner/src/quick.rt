@@ -7,6 +7,7 @@ use crate::answer::position_at;
 use blanks::Skipped;
 use lexer::Lexed;
 use parts::Token;
+use position::Line;
 use state::State;
 ghost use mathlib.Core.Path.{_≡_};
 ghost use Prim.Native.Nat.{_+_, _-_, _≤_};
@@ -102,12 +103,17 @@ fn give_quick(
 ) -> Tried
     requires { ⌜ QuickReady (now src) state blanks x (now table) ⌝ }
     ensures { λ r. ⌜ (now (table .exit) ≡ sets (now (table .entry)) (state .lines)
-        (startsFrom (now (src .entry)) state (blanks .end - state .place) ++ startAfter x offset)) × (r ≡ quickToken state blanks x offset) ⌝ }
+        (startsFrom (now (src .entry)) state (blanks .end - state .place) ++ startAfter x offset)) × (r ≡ quickToken state blanks x offset (now (table .exit))) ⌝ }
 {
     let token = plain_token(x, blanks.end, position_at(state, blanks.end));
     let lines = state.lines + (blanks.lfs + x.lfs);
-    let next = state.advanced(x.end, offset, x.mark, lines, state.errors);
     record_ends(src, state, blanks, x, offset, table);
+    let start = table[lines - 1];
+    let line = Line {
+        number: lines,
+        start,
+    };
+    let next = state.advanced(x.end, offset, x.mark, lines, state.errors, line);
     Tried {
         done: true,
         state: next,

@@ -9,6 +9,7 @@ use crate::write::write_area;
 use crate::write::write_error;
 use blanks::Skipped;
 use lexer::Lexed;
+use position::Line;
 use state::State;
 ghost use mathlib.Core.Path.{_≡_};
 ghost use Prim.Native.Nat.{_+_, _*_, _-_, _≤_, _<_, _^_};
@@ -19,11 +20,10 @@ ghost use lib.Seq.{sets};
 ghost use Rattle.utf8.specs.Chars.{chars};
 ghost use Rattle.utf8.specs.Count.{isLf, count};
 ghost use Rattle.lines.specs.Starts.{startsRead};
-ghost use Rattle.position.specs.Place.{fitting};
 ghost use Rattle.errors.specs.Layout.{width, numbers};
 ghost use Rattle.errors.specs.Errors.{roomOf};
 ghost use Rattle.reading.specs.Reading.{errorAt};
-ghost use Rattle.state.specs.Fits.{fileOf, fits};
+ghost use Rattle.state.specs.Fits.{fits};
 ghost use Rattle.scanner.specs.Scan.{scanOf};
 ghost use Rattle.scanner.specs.Steps.{toWrite, refusalBy, stateBy, startsFrom, Reads, Known, Ready, leftOf, commitOf};
 
@@ -99,17 +99,24 @@ fn refusal_of(
     0
 }
 
-// The state after a token that ends at an offset and records so many line starts.
-fn state_after(x: Lexed, offset: usize, starts: usize, state: State) -> State
-    requires { ⌜ (state .lines + starts < 2 ^ 64) × (state .errors + 1 < 2 ^ 64) ⌝ }
-    ensures { λ r. ⌜ r ≡ stateBy x offset starts state ⌝ }
+// The state after a token that ends at an offset and records so many line starts, which the table
+// has by now.
+fn state_after(x: Lexed, offset: usize, starts: usize, state: State, table: &[usize]) -> State
+    requires { ⌜ (1 ≤ state .lines) × (state .lines + starts ≤ length (now table)) × (state .errors + 1 < 2 ^ 64) ⌝ }
+    ensures { λ r. ⌜ r ≡ stateBy x offset starts state (now (table .entry)) ⌝ }
 {
     let errors = if x.error == 0 {
         state.errors
     } else {
         state.errors + 1
     };
-    state.advanced(x.end, offset, x.mark, state.lines + starts, errors)
+    let lines = state.lines + starts;
+    let start = table[lines - 1];
+    let line = Line {
+        number: lines,
+        start,
+    };
+    state.advanced(x.end, offset, x.mark, lines, errors, line)
 }
 
 // Records the line starts of the next characters; where there are none, they are not read again.
@@ -132,22 +139,21 @@ fn record_starts(src: &[u8], state: State, read: usize, starts: usize, table: &m
 }
 
 // Records the error of a token, if it has one, after the first `count`.
-fn record_error(after: State, table: &[usize], list: &mut [usize], count: usize, number: u8)
-    requires { ⌜ (fitting (fileOf after) (now table) ≡ true) × (after .offset ≤ after .size) × (count + cond (eqb number 0) 0 1 ≤ roomOf (now list)) ⌝ }
+fn record_error(after: State, list: &mut [usize], count: usize, number: u8)
+    requires { ⌜ (after .line .start ≤ after .offset) × (after .offset + 1 < 2 ^ 64) × (count + cond (eqb number 0) 0 1 ≤ roomOf (now list)) ⌝ }
     ensures { λ r. ⌜ now (list .exit) ≡ cond (eqb number 0) (now (list .entry)) (sets (now (list .entry)) (count * width)
-        (numbers (errorAt number (after .offset) (take (after .lines) (now (table .entry)))))) ⌝ }
+        (numbers (errorAt number (after .offset) (after .line)))) ⌝ }
 {
     if number == 0 {
         return;
     }
-    write_error(after, table, list, count, number);
+    write_error(after, list, count, number);
 }
 
-// Writes what a token that passed the checks leaves in the buffers, by the state after it.
+// Writes what a token that passed the checks leaves in the buffers; answers the state after it.
 fn write_token(
     src: &[u8],
     state: State,
-    after: State,
     start: usize,
     x: Lexed,
     read: usize,
@@ -155,14 +161,17 @@ fn write_token(
     table: &mut [usize],
     list: &mut [usize],
     area: &mut [u8],
-)
-    requires { ⌜ Ready (now src) state start x read starts (now table) (now list) (now area) × (after ≡ stateBy x (state .offset + read) starts state) ⌝ }
-    ensures { λ _. ⌜ record { table = now (table .exit); list = now (list .exit); area = now (area .exit) }
-        ≡ leftOf (now (src .entry)) state start x read starts (now (table .entry)) (now (list .entry)) (now (area .entry)) ⌝ }
+) -> State
+    requires { ⌜ Ready (now src) state start x read starts (now table) (now list) (now area) ⌝ }
+    ensures { λ r. ⌜ (record { table = now (table .exit); list = now (list .exit); area = now (area .exit) }
+        ≡ leftOf (now (src .entry)) state start x read starts (now (table .entry)) (now (list .entry)) (now (area .entry)))
+        × (r ≡ stateBy x (state .offset + read) starts state (now (table .exit))) ⌝ }
 {
     record_starts(src, state, read, starts, table);
-    record_error(after, table, list, state.errors, x.error);
+    let after = state_after(x, state.offset + read, starts, state, table);
+    record_error(after, list, state.errors, x.error);
     write_area(src, start, x, area);
+    after
 }
 
 // Commits a token that passed the checks: what it leaves in the buffers, and the answer.
@@ -181,9 +190,8 @@ fn commit(
     ensures { λ r. ⌜ record { table = now (table .exit); list = now (list .exit); area = now (area .exit); answer = r }
         ≡ commitOf (now (src .entry)) state start x read starts (now (table .entry)) (now (list .entry)) (now (area .entry)) ⌝ }
 {
-    let after = state_after(x, state.offset + read, starts, state);
     let token = token_of(x, start, position_at(state, start));
-    write_token(src, state, after, start, x, read, starts, table, list, area);
+    let after = write_token(src, state, start, x, read, starts, table, list, area);
     gave(after, token)
 }
 

@@ -3,43 +3,29 @@
 use lexer::Lexed;
 use lexer::Text;
 use lexer::Value;
-use position::Located;
 use state::State;
 ghost use mathlib.Core.Path.{_≡_};
-ghost use mathlib.Core.Bool.{true};
 ghost use Prim.Native.Nat.{_+_, _*_, _≤_, _<_, _^_};
-ghost use lib.ListN.{length, take};
+ghost use lib.ListN.{length};
 ghost use lib.Seq.{sets};
-ghost use Rattle.position.specs.Place.{fitting};
 ghost use Rattle.errors.specs.Layout.{width, numbers};
 ghost use Rattle.errors.specs.Errors.{roomOf};
 ghost use Rattle.reading.specs.Reading.{errorAt};
 ghost use Rattle.lexer.specs.Placed.{said};
-ghost use Rattle.state.specs.Fits.{fileOf};
 ghost use Rattle.scanner.specs.Scan.{written, toArea};
 ghost use Rattle.scanner.specs.Steps.{textLen, toWrite};
 
 // Records an error at the offset that was reached, after the first `count` of the list.
-pub(crate) fn write_error(
-    after: State,
-    table: &[usize],
-    list: &mut [usize],
-    count: usize,
-    number: u8,
-)
-    requires { ⌜ (fitting (fileOf after) (now table) ≡ true) × (after .offset ≤ after .size) × (count < roomOf (now list)) ⌝ }
-    ensures { λ r. ⌜ now (list .exit) ≡ sets (now (list .entry)) (count * width)
-        (numbers (errorAt number (after .offset) (take (after .lines) (now (table .entry))))) ⌝ }
+pub(crate) fn write_error(after: State, list: &mut [usize], count: usize, number: u8)
+    requires { ⌜ (after .line .start ≤ after .offset) × (after .offset + 1 < 2 ^ 64) × (count < roomOf (now list)) ⌝ }
+    ensures { λ r. ⌜ now (list .exit) ≡ sets (now (list .entry)) (count * width) (numbers (errorAt number (after .offset) (after .line))) ⌝ }
 {
     let offset = after.offset;
-    let located = after.file().position(table, after.base + offset);
-    let Located::At(p) = located else {
-        return;
-    };
+    let column = offset - after.line.start + 1;
     let error = errors::Error {
         offset,
-        line: p.line,
-        column: p.column,
+        line: after.line.number,
+        column,
         number: number as usize,
     };
     errors::add(list, count, error);

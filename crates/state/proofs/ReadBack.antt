@@ -1,4 +1,4 @@
--- What was written is read back: a flag by its bit, a state by its seven numbers.
+-- What was written is read back: a flag by its bit, a state by its nine numbers.
 use Prim.Native.Nat.{ℕ, _≤_}
 use mathlib.Core.Path.{_≡_, refl}
 use mathlib.Core.Bool.{Bool, true, false, not}

@@ -1,8 +1,8 @@
 -- When a state goes together with what a call is lent: the conditions of refusal 6.
 use Prim.Native.Nat.{ℕ}
-use mathlib.Core.Bool.{Bool, _&&_}
+use mathlib.Core.Bool.{Bool, true, cond, _&&_}
 use mathlib.Core.List.{List}
-use lib.Dec.{leb}
+use lib.Dec.{eqb, ltb, leb}
 use lib.ListN.{length}
 use Rattle.position.specs.declared.File.{File}
 use Rattle.position.specs.Lines.{lineStart}
@@ -14,13 +14,22 @@ use Rattle.state.specs.declared.state.State.{State}
 abbrev pub fileOf : State → File
 fileOf s = record { base = s .base; size = s .size; lines = s .lines }
 
--- "offset above place or size, base + size too large, line count 0"
-abbrev pub fitsAlone : State → Bool
-fitsAlone s = leb (s .offset) (s .place) && leb (s .offset) (s .size) && hasLine (fileOf s) && inRange (fileOf s)
+-- "A state whose two numbers are not the line count and the last start is one that does not fit":
+-- the line is the line count. Its start is to be the last start, so it is not above the offset. With
+-- one line it is to be the first start too, so it is 0.
+abbrev pub fitsLine : State → Bool
+fitsLine s =
+    eqb (s .line .number) (s .lines) && leb (s .line .start) (s .offset) && cond (ltb 1 (s .lines)) true (eqb (s .line .start) 0)
 
--- "line count .. above the table, first start not 0, last start .. above the offset"
+-- "offset above place or size, base + size too large, line count 0", and the line: what the state
+-- alone tells
+abbrev pub fitsAlone : State → Bool
+fitsAlone s = leb (s .offset) (s .place) && leb (s .offset) (s .size) && hasLine (fileOf s) && inRange (fileOf s) && fitsLine s
+
+-- "line count .. above the table, first start not 0", and the start of the line is the last start;
+-- by `fitsLine` this is not "above the offset"
 abbrev pub fitsTable : State → List ℕ → Bool
-fitsTable s table = fitting (fileOf s) table && leb (lineStart table (s .lines)) (s .offset)
+fitsTable s table = fitting (fileOf s) table && eqb (lineStart table (s .lines)) (s .line .start)
 
 -- all that a question about lines is given
 abbrev pub fitsLines : State → List ℕ → Bool

@@ -1,5 +1,6 @@
-// A state in seven numbers.
+// A state in nine numbers.
 use crate::state::State;
+use position::Line;
 ghost use mathlib.Core.Path.{_≡_};
 ghost use lib.ListN.{getD};
 ghost use Rattle.state.specs.Layout.{bit, stateIn, stateWritten};
@@ -30,6 +31,10 @@ pub fn state_in(n: &[usize]) -> State
         mark: number_at(n, 4) != 0,
         lines: number_at(n, 5),
         errors: number_at(n, 6),
+        line: Line {
+            number: number_at(n, 7),
+            start: number_at(n, 8),
+        },
     }
 }
 
@@ -47,4 +52,6 @@ pub fn put_state(s: State, n: &mut [usize])
     n[4] = bit_of(s.mark);
     n[5] = s.lines;
     n[6] = s.errors;
+    n[7] = s.line.number;
+    n[8] = s.line.start;
 }

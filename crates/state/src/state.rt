@@ -1,6 +1,7 @@
 // The state of a scan, which goes from call to call by value.
+use position::Line;
 ghost use mathlib.Core.Path.{_≡_};
-ghost use Rattle.state.specs.Fits.{fileOf, fitsAlone, fitsTable, fitsLines, fits};
+ghost use Rattle.state.specs.Fits.{fileOf, fitsLine, fitsAlone, fitsTable, fitsLines, fits};
 ghost use Rattle.state.specs.State.{fresh, advance};
 
 pub struct State {
@@ -15,6 +16,8 @@ pub struct State {
     // how many line starts and errors are recorded
     pub lines: usize,
     pub errors: usize,
+    // the line of the offset
+    pub line: Line,
 }
 
 impl State {
@@ -25,7 +28,7 @@ impl State {
     pub const MAX_POSITION: usize = position::File::MAX_POSITION;
 
     // How many numbers a state is.
-    pub const NUMBERS: usize = 7;
+    pub const NUMBERS: usize = 9;
 
     // The state before the first scan.
     pub fn new(base: usize, size: usize) -> State
@@ -39,6 +42,10 @@ impl State {
             mark: false,
             lines: 1,
             errors: 0,
+            line: Line {
+                number: 1,
+                start: 0,
+            },
         }
     }
 
@@ -50,8 +57,9 @@ impl State {
         mark: bool,
         lines: usize,
         errors: usize,
+        line: Line,
     ) -> State
-        ensures { λ r. ⌜ r ≡ advance self place offset mark lines errors ⌝ }
+        ensures { λ r. ⌜ r ≡ advance self place offset mark lines errors line ⌝ }
     {
         State {
             place,
@@ -59,6 +67,7 @@ impl State {
             mark,
             lines,
             errors,
+            line,
             ..self
         }
     }
@@ -74,6 +83,22 @@ impl State {
         }
     }
 
+    // Does the line go together with the line count and the offset?
+    fn fits_line(self) -> bool
+        ensures { λ r. ⌜ r ≡ fitsLine self ⌝ }
+    {
+        if self.line.number != self.lines {
+            return false;
+        }
+        if self.line.start > self.offset {
+            return false;
+        }
+        if self.lines > 1 {
+            return true;
+        }
+        self.line.start == 0
+    }
+
     // Does the state go together with itself?
     pub fn fits_alone(self) -> bool
         ensures { λ r. ⌜ r ≡ fitsAlone self ⌝ }
@@ -87,7 +112,10 @@ impl State {
         if self.lines < 1 {
             return false;
         }
-        self.file().in_range()
+        if !self.file().in_range() {
+            return false;
+        }
+        self.fits_line()
     }
 
     // Does it go together with a table of line starts?
@@ -97,7 +125,7 @@ impl State {
         if !self.file().fits(table) {
             return false;
         }
-        table[self.lines - 1] <= self.offset
+        table[self.lines - 1] == self.line.start
     }
 
     // Does it go together with itself and with a table of line starts?

@@ -245,6 +245,20 @@ fn end_numbers(last: Progress, out: &mut Buffer) {
     }
 }
 
+// Lists the tokens of a text, and what follows them.
+fn list_text(
+    names: bool,
+    src: &[u8],
+    table: &mut [usize],
+    list: &mut [usize],
+    area: &mut [u8],
+    out: &mut Buffer,
+) -> Progress {
+    let opened = open(src, table);
+    let tokens = list_tokens(names, src, opened, table, list, area, out);
+    list_rest(names, src, tokens, list, out)
+}
+
 // Lists a text, with names or in numbers.
 pub(crate) fn list(
     names: bool,
@@ -254,9 +268,7 @@ pub(crate) fn list(
     area: &mut [u8],
     out: &mut Buffer,
 ) {
-    let opened = open(src, table);
-    let tokens = list_tokens(names, src, opened, table, list, area, out);
-    let last = list_rest(names, src, tokens, list, out);
+    let last = list_text(names, src, table, list, area, out);
     if names {
         end_names(last, out);
     } else {

@@ -15,7 +15,7 @@ impl<'src> Scanner<'src> {
         Scanner {
             source: "",
             chars: 0,
-            state: [0; 7],
+            state: [0; ffi::STATE_LEN],
             buffers: Buffers::new(source.len().min(Self::MAX_SOURCE)),
             given: 0,
             count: 0,

@@ -5,6 +5,8 @@ use mathlib.Core.Bool.{true, cond}
 use native.Mathlib.Omega.{arith}
 use lib.ListN.{length}
 use borrow.Author.Needs.{needs}
+use Rattle.position.proofs.Place.{fit}
+use Rattle.state.specs.Fits.{fileOf}
 use Rattle.scanner.proofs.Scans.{held}
 use Rattle.batch.specs.Run.{reached, Leads}
 use Rattle.batch.proofs.Runs.{offset-within, size-small, state-start}
@@ -18,7 +20,7 @@ Inv-loop src firsts keys values first table₀ list tokens₀ from room safe at�
     × (length tokens ≡ length tokens₀)
     × (first .place ≤ at .place)
     × (at .more ≡ true → at .count < room)
-    × Leads room src list first table₀ tokens₀ from (reached first at) table tokens (at .count)
+    × Leads room src list first table₀ tokens₀ from (reached first at table) table tokens (at .count)
 
 abbrev μ-loop : tie.MeasureT-loop
 μ-loop src firsts keys values first table₀ list tokens₀ from room safe at₀ table tokens at = cond (at .more) 1 0 + (room - at .count)
@@ -41,7 +43,7 @@ loop-holds c =
     let s = start (c .before) in
     let a = s .args in
     rw (c .begun .ensures)
-    (refl, refl, omega arith, λ _. s .pre .3, subst (λ t. Leads (a .room) (a .src .now) (a .list .now) (a .first) (a .table .now) (a .tokens .now) (a .from) t (a .table .now) (a .tokens .now) (a .from)) (sym (state-start (a .first))) (leads-here (a .room) (a .src .now) (a .list .now) (a .first) (a .table .now) (a .tokens .now) (a .from) (s .pre .0) (omega (arith, s .pre .3))))
+    (refl, refl, omega arith, λ _. s .pre .3, subst (λ t. Leads (a .room) (a .src .now) (a .list .now) (a .first) (a .table .now) (a .tokens .now) (a .from) t (a .table .now) (a .tokens .now) (a .from)) (sym (state-start (a .first) (a .src .now) (a .table .now) (a .list .now) (s .pre .0))) (leads-here (a .room) (a .src .now) (a .list .now) (a .first) (a .table .now) (a .tokens .now) (a .from) (s .pre .0) (omega (arith, s .pre .3))))
 
 next-simple-requires : tie.Need-next-simple-requires Inv-loop μ-loop
 next-simple-requires c κs =
@@ -72,10 +74,15 @@ loop-again c =
 
 state-at-requires : tie.Need-state-at-requires Inv-loop μ-loop
 state-at-requires c κs =
-    let l = c .before .loop in
-    let a = start (c .before .before .before) .args in
-    let s = reached (a .first) (l .at) in
-    (l .inv .2, omega (arith, offset-within s (a .src .now) (l .table) (a .list .now) (l .inv .4 .fit), size-small s (a .src .now) (l .table) (a .list .now) (l .inv .4 .fit)))
+    let l = c .before .before .loop in
+    let a = start (c .before .before .before .before) .args in
+    let s = reached (a .first) (l .at) (l .table) in
+    let f = fit (fileOf s) (l .table) (held s (a .src .now) (l .table) (a .list .now) (l .inv .4 .fit) .fitted) in (
+      l .inv .2,
+      omega (arith, offset-within s (a .src .now) (l .table) (a .list .now) (l .inv .4 .fit), size-small s (a .src .now) (l .table) (a .list .now) (l .inv .4 .fit)),
+      f .some,
+      f .held,
+    )
 
 same-length : tie.Need-same-length Inv-loop μ-loop
 same-length c = search needs
@@ -84,7 +91,7 @@ same-length-2 : tie.Need-same-length-2 Inv-loop μ-loop
 same-length-2 c = search needs
 
 returns : tie.Need-returns Inv-loop μ-loop
-returns c = rw (c .state-at .ensures) (c .before .before .loop .inv .4)
+returns c = rw (c .state-at .ensures) (c .before .before .before .loop .inv .4)
 
 pub run-simple-spec : {M : Type 1} → statement M
 run-simple-spec =

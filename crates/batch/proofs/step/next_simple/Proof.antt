@@ -34,7 +34,7 @@ returns : tie.Need-returns
 returns c =
     let s = start (c .before .before .before) in
     let a = s .args in
-    rw (c .ended .ensures) (leads-here (a .room) (a .src .now) (a .list .now) (reached (a .first) (a .at)) (a .table .now) (a .tokens .now) (a .at .count) (s .pre .0) (omega (arith, s .pre .5)), s .pre .1, λ e. absurd (false≢true e))
+    rw (c .ended .ensures) (leads-here (a .room) (a .src .now) (a .list .now) (reached (a .first) (a .at) (a .table .now)) (a .table .now) (a .tokens .now) (a .at .count) (s .pre .0) (omega (arith, s .pre .5)), s .pre .1, λ e. absurd (false≢true e))
 
 -- ---- after blanks that were found
 module _ (c : tie.Else1) where
@@ -63,7 +63,7 @@ module _ (c : tie.Else1) where
   small : (begun .args .first .base + begun .args .first .size < 2 ^ 32) × (begun .args .first .offset ≤ begun .args .first .size)
   small =
       let a = begun .args in
-      let here = reached (a .first) (a .at) in
+      let here = reached (a .first) (a .at) (a .table .now) in
       (size-small here (a .src .now) (a .table .now) (a .list .now) (begun .pre .0), omega (arith, offset-within here (a .src .now) (a .table .now) (a .list .now) (begun .pre .0)))
 
   -- there is room for the token
@@ -111,7 +111,7 @@ returns-2 c =
     let s = begun (ready g) in
     let a = s .args in
     let none = g .give-simple .ensures .0 (not-true _ (c .before .if2 .taken)) in
-    rw (c .ended2 .ensures, none) (leads-here (a .room) (a .src .now) (a .list .now) (reached (a .first) (a .at)) (a .table .now) (a .tokens .now) (a .at .count) (s .pre .0) (omega (arith, s .pre .5)), s .pre .1, λ e. absurd (false≢true e))
+    rw (c .ended2 .ensures, none) (leads-here (a .room) (a .src .now) (a .list .now) (reached (a .first) (a .at) (a .table .now)) (a .table .now) (a .tokens .now) (a .at .count) (s .pre .0) (omega (arith, s .pre .5)), s .pre .1, λ e. absurd (false≢true e))
 
 record-line-requires : tie.Need-record-line-requires
 record-line-requires c κs =

@@ -18,21 +18,32 @@ add-lines-2 c =
     let s = c .before .before .before .before .before .before .before in
     record { fits = omega (arith, s .pre .tableRoom, s .good .1 .1 .1 .1 .1 .0 .1) }
 
-advanced-requires : tie.Need-advanced-requires
-advanced-requires c κs = search needs
-
 record-ends-requires : tie.Need-record-ends-requires
 record-ends-requires c κs = search needs
+
+sub-start : tie.Need-sub-start
+sub-start c = search needs
+
+mul-start : tie.Need-mul-start
+mul-start c =
+    let t = c .before .before .before .before .before .before .before in
+    let s = t .before .before .before .before in
+    record { fits = omega (arith, s .pre .tableRoom, s .good .1 .1 .1 .1 .1 .0 .1) }
+
+slice-read-start : tie.Need-slice-read-start
+slice-read-start c = search needs
+
+advanced-requires : tie.Need-advanced-requires
+advanced-requires c κs = search needs
 
 same-length : tie.Need-same-length
 same-length c = search needs
 
 returns : tie.Need-returns
 returns c =
-    let r = c .before .before in
-    let n = r .before .before in
-    let t = n .before .before .before .before in
-    (r .record-ends .ensures, rw (n .advanced .ensures, t .plain-token .ensures, t .before .position-at .ensures))
+    let r = c .before .before .before .before in
+    let t = r .before .before .before .before .before in
+    (r .record-ends .ensures, rw (c .advanced .ensures, t .plain-token .ensures, t .before .position-at .ensures))
 
 pub give-quick-spec : {M : Type 1} → statement M
 give-quick-spec =
@@ -42,7 +53,10 @@ give-quick-spec =
     plain-token-requires
     add-lines
     add-lines-2
-    advanced-requires
     record-ends-requires
+    sub-start
+    mul-start
+    slice-read-start
+    advanced-requires
     same-length
     returns)

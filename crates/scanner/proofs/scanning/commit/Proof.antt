@@ -1,18 +1,12 @@
--- `scanning::commit` meets its contract: the state after the token, the token, and what is written.
+-- `scanning::commit` meets its contract: the token, what is written, and the state after it.
 use Rattle.scanner.proofs.Committed.{position-fits, commit-is}
 use borrow.Author.Needs.{needs}
 use Rattle.scanner.proofs.scanning.commit.Statement.{statement}
 use Rattle.scanner.proofs.scanning.commit.Tie as tie
 
-add-state-after : tie.Need-add-state-after
-add-state-after c = search needs
-
-state-after-requires : tie.Need-state-after-requires
-state-after-requires c κs = search needs
-
 position-at-requires : tie.Need-position-at-requires
 position-at-requires c κs =
-    let k = c .before .before .before .before .before .before .pre in
+    let k = c .before .before .before .before .pre in
     (k .behind, position-fits _ _ _ _ _ _ _ _ _ k)
 
 token-of-requires : tie.Need-token-of-requires
@@ -37,18 +31,15 @@ returns : tie.Need-returns
 returns c =
     let w = c .before .before .before .before .before .before .before in
     let t = w .before .before .before .before in
-    let n = t .before .before in
-    let a = n .before .before .before .before .before .before .args in
+    let a = t .before .before .before .before .before .before .args in
     commit-is (a .src .now) (a .state) (a .start) (a .x) (a .read) (a .starts) (a .table .now) (a .list .now) (a .area .now)
-    (w .write-token .ensures)
-    (rw (c .gave .ensures, t .token-of .ensures, t .before .position-at .ensures, n .state-after .ensures))
+    (w .write-token .ensures .0)
+    (rw (c .gave .ensures, t .token-of .ensures, t .before .position-at .ensures, w .write-token .ensures .1))
 
 pub commit-spec : {M : Type 1} → statement M
 commit-spec =
     tie.close
     (tie.spec
-    add-state-after
-    state-after-requires
     position-at-requires
     token-of-requires
     write-token-requires

@@ -11,7 +11,7 @@ returns c = rw (eq-eqb _ _ (c .if1 .taken))
 write-error-requires : tie.Need-write-error-requires
 write-error-requires c κs =
     let e = c .before in
-    let p = e .before .before .before .pre in
+    let p = e .before .before .pre in
     (p .0, p .1, list-room _ _ _ (e .if1 .left) (p .2))
 
 same-length : tie.Need-same-length

@@ -1,5 +1,6 @@
--- `scanning::write_token` meets its contract: each call writes one buffer of the definition.
-use Rattle.scanner.proofs.Committed.{error-ready, left-is}
+-- `scanning::write_token` meets its contract: each call writes one buffer of the definition, and the state is that of the table then.
+use native.Mathlib.Omega.{arith}
+use Rattle.scanner.proofs.Committed.{state-ready, error-ready, left-is}
 use borrow.Author.Needs.{needs}
 use Rattle.scanner.proofs.scanning.write_token.Statement.{statement}
 use Rattle.scanner.proofs.scanning.write_token.Tie as tie
@@ -7,11 +8,21 @@ use Rattle.scanner.proofs.scanning.write_token.Tie as tie
 record-starts-requires : tie.Need-record-starts-requires
 record-starts-requires c κs = search needs
 
-record-error-requires : tie.Need-record-error-requires
-record-error-requires c κs =
+add-state-after : tie.Need-add-state-after
+add-state-after c = search needs
+
+state-after-requires : tie.Need-state-after-requires
+state-after-requires c κs =
     let r = c .before .before .before .before in
     let s = r .before .before .before .before .before .before in
-    error-ready _ _ _ _ _ _ _ _ _ (s .pre .0) (s .pre .1) (r .record-starts .ensures)
+    state-ready _ _ _ _ _ _ _ _ _ (s .pre) (r .record-starts .ensures) (omega (arith, s .good .1 .1 .1 .1 .1 .1 .1 .0 .1))
+
+record-error-requires : tie.Need-record-error-requires
+record-error-requires c κs =
+    let a = c .before in
+    let r = a .before .before .before .before .before in
+    let s = r .before .before .before .before .before .before in
+    error-ready _ _ _ _ _ _ _ _ _ (s .pre) (r .record-starts .ensures) (a .state-after .ensures)
 
 write-area-requires : tie.Need-write-area-requires
 write-area-requires c κs = search needs
@@ -29,17 +40,21 @@ returns : tie.Need-returns
 returns c =
     let w = c .before .before in
     let e = w .before .before .before .before in
-    let r = e .before .before .before .before .before in
-    let s = r .before .before .before .before .before .before in
-    let a = s .args in
-    left-is (a .src .now) (a .state) (a .start) (a .x) (a .read) (a .starts) (a .table .now) (a .list .now) (a .area .now)
-    (s .pre .1) (r .record-starts .ensures) (e .record-error .ensures) (w .write-area .ensures)
+    let a = e .before .before in
+    let r = a .before .before .before .before .before in
+    let s = r .before .before .before .before .before .before .args in (
+      left-is (s .src .now) (s .state) (s .start) (s .x) (s .read) (s .starts) (s .table .now) (s .list .now) (s .area .now)
+          (r .record-starts .ensures) (a .state-after .ensures) (e .record-error .ensures) (w .write-area .ensures),
+      a .state-after .ensures,
+    )
 
 pub write-token-spec : {M : Type 1} → statement M
 write-token-spec =
     tie.close
     (tie.spec
     record-starts-requires
+    add-state-after
+    state-after-requires
     record-error-requires
     write-area-requires
     same-length

@@ -34,6 +34,12 @@ slice-write-n-6 c = simp length-set (omega arith)
 slice-write-n-7 : tie.Need-slice-write-n-7
 slice-write-n-7 c = simp length-set (omega arith)
 
+slice-write-n-8 : tie.Need-slice-write-n-8
+slice-write-n-8 c = simp length-set (omega arith)
+
+slice-write-n-9 : tie.Need-slice-write-n-9
+slice-write-n-9 c = simp length-set (omega arith)
+
 same-length : tie.Need-same-length
 same-length c = search needs
 
@@ -53,5 +59,7 @@ put-state-spec =
     slice-write-n-5
     slice-write-n-6
     slice-write-n-7
+    slice-write-n-8
+    slice-write-n-9
     same-length
     returns-2)

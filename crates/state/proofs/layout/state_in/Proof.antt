@@ -24,16 +24,26 @@ number-at-requires-6 c κs = search needs
 number-at-requires-7 : tie.Need-number-at-requires-7
 number-at-requires-7 c κs = search needs
 
+number-at-requires-8 : tie.Need-number-at-requires-8
+number-at-requires-8 c κs = search needs
+
+number-at-requires-9 : tie.Need-number-at-requires-9
+number-at-requires-9 c κs = search needs
+
 returns : tie.Need-returns
 returns c =
+    let e = c .before .before in
+    let m = e .before .before .before .before in
     rw (
-      c .number-at7 .ensures,
-      c .before .number-at6 .ensures,
-      c .before .before .number-at5 .ensures,
-      c .before .before .before .number-at4 .ensures,
-      c .before .before .before .before .number-at3 .ensures,
-      c .before .before .before .before .before .number-at2 .ensures,
-      c .before .before .before .before .before .before .number-at .ensures,
+      c .number-at9 .ensures,
+      c .before .number-at8 .ensures,
+      e .number-at7 .ensures,
+      e .before .number-at6 .ensures,
+      e .before .before .number-at5 .ensures,
+      e .before .before .before .number-at4 .ensures,
+      m .number-at3 .ensures,
+      m .before .number-at2 .ensures,
+      m .before .before .number-at .ensures,
     )
 
 pub state-in-spec : {M : Type 1} → statement M
@@ -47,4 +57,6 @@ state-in-spec =
     number-at-requires-5
     number-at-requires-6
     number-at-requires-7
+    number-at-requires-8
+    number-at-requires-9
     returns)
