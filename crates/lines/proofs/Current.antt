@@ -12,7 +12,7 @@ use Rattle.basics.proofs.Tests.{same-lt}
 use Rattle.utf8.specs.declared.Char.{Char}
 use Rattle.utf8.specs.Count.{isLf}
 use Rattle.position.specs.declared.Line.{Line}
-use Rattle.position.specs.Lines.{lineOf, lineStart, lineIn, startOf, columnOf, isRecorded, firstLine, StrictlyRising}
+use Rattle.position.specs.Lines.{lineOf, lineStart, lineIn, startOf, columnOf, isRecorded, StrictlyRising}
 use Rattle.position.proofs.Lines.{line-all, rising-at-most}
 use Rattle.lines.specs.Starts.{recorded, readLines}
 use Rattle.lines.specs.Current.{nextLine, readLine}
@@ -90,15 +90,11 @@ module _ (starts : List ℕ) (o : ℕ) (r : StrictlyRising starts) (h : lineStar
 
   pub current-last : Current starts o (lastLine starts)
   unfolding columnOf startOf
-  current-last = record { rising = r; last = h; number = sym line-last; start = rw line-last; column = rw line-last }
+  current-last = record { rising = r; last = h; answer = ap (lineIn starts) (sym line-last); column = rw line-last }
 
 -- and no other line is
 pub current-is : (starts : List ℕ) (o : ℕ) (line : Line) → Current starts o line → line ≡ lastLine starts
-unfolding startOf
-current-is starts o line k =
-    let e = line-last starts o (k .rising) (k .last) in
-    let f : line .start ≡ lineStart starts (length starts) = k .start ∙ ap (lineStart starts) e in
-    λ i. record { number = (k .number ∙ e) i; start = f i }
+current-is starts o line k = k .answer ∙ ap (lineIn starts) (line-last starts o (k .rising) (k .last))
 
 pub current-read : (size o : ℕ) (cs : List Char) (starts : List ℕ) (line : Line) → Current starts o line → Current (readLines size o cs starts) (o + length cs) (readLine size o cs line)
 current-read size o cs starts line k =

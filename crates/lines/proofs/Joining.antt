@@ -4,31 +4,25 @@ use Prim.Native.Char.{code}
 use mathlib.Core.Path.{_≡_, refl, sym, ap, _∙_}
 use mathlib.Core.Bool.{Bool, true, false, cond, _&&_}
 use mathlib.Core.List.{List, [], _∷_, _++_, map, append-assoc, map-append}
-use native.Mathlib.Nat.{add-zero, zero-add, add-suc, not-suc-le-zero}
+use native.Mathlib.Nat.{add-zero, add-suc, not-suc-le-zero}
 use native.Mathlib.Omega.{arith}
 use lib.Dec.{ltb}
-use lib.ListN.{length, drop, length-append, length-map, List·getD-map, List·getD-append}
+use lib.ListN.{length, drop, length-append, length-map, List·getD-map}
 use lib.Seq.{append-snoc, getD-append-add}
-use borrow.Author.Tests.{lt-ltb, eq-eqb}
+use borrow.Author.Tests.{eq-eqb}
 use Rattle.basics.proofs.Choice.{cond-ind}
 use Rattle.basics.proofs.Lists.{getD-any}
 use Rattle.basics.proofs.Tests.{same-lt}
 use Rattle.utf8.specs.declared.Char.{Char}
 use Rattle.utf8.proofs.Ends.{Ends}
 use Rattle.utf8.specs.Count.{isLf, count}
-use Rattle.position.specs.Lines.{lineOf, lineStart, startOf, columnOf}
-use Rattle.position.proofs.Lines.{AtMost, FromZero, line-count, line-joined, column-joined}
+use Rattle.position.specs.Lines.{lineStart}
+use Rattle.position.proofs.Lines.{FromZero}
 use Rattle.lines.specs.Starts.{recorded, readLines}
 use Rattle.lines.specs.Joined.{startsOf, over}
 use Rattle.lines.proofs.Reading.{read-append, read-new, read-feed, read-any-size}
 use Rattle.lines.proofs.Counts.{starts-last, starts-count-end}
-use Rattle.lines.proofs.Kept.{read-last, read-at-most, read-from-zero}
-
--- starts that are above the offset count for no line
-line-before : (s t : List ℕ) (o : ℕ) → lineOf t o ≡ 0 → lineOf (s ++ t) o ≡ lineOf s o
-unfolding lineOf
-line-before [] t o h = h
-line-before (x ∷ s) t o h = rw (line-before s t o h)
+use Rattle.lines.proofs.Kept.{read-last}
 
 recorded-some : (size x : ℕ) (s : List ℕ) → 1 ≤ length s → 1 ≤ length (recorded size x s)
 recorded-some size x s h =
@@ -81,33 +75,6 @@ module _ (n : ℕ) (first : List ℕ) where
       go true more = rw (over-recorded size (suc o) s h) (more (recorded (size - n) (suc o) s) (recorded-some (size - n) (suc o) s h))
       go false more = more s h
 
-  -- the line and the column of an offset there
-  module _ (low : AtMost n first) (s : List ℕ) (o : ℕ) where
-    pub over-line : lineOf (over n first s) (n + o) ≡ length first + lineOf s o
-    unfolding over
-    over-line = line-joined n first low s o
-
-    pub over-column : FromZero s → columnOf (over n first s) (n + o) ≡ columnOf s o
-    unfolding over
-    over-column z = column-joined n first low s o z
-
-  -- an offset of the first text keeps both
-  module _ (o : ℕ) (h : o < n) where
-    none-raised : (s : List ℕ) → lineOf (map (λ x. n + x) s) o ≡ 0
-    unfolding lineOf
-    none-raised [] = refl
-    none-raised (x ∷ s) = rw (lt-ltb o (n + x) (omega arith))
-
-    pub over-line-before : (s : List ℕ) → lineOf (over n first s) o ≡ lineOf first o
-    unfolding over
-    over-line-before s = line-before first (map (λ x. n + x) s) o (none-raised s)
-
-    pub over-column-before : (s : List ℕ) → 1 ≤ length first → columnOf (over n first s) o ≡ columnOf first o
-    unfolding over columnOf startOf
-    over-column-before s z =
-        let m = map (λ x. n + x) s in
-        rw (line-before first m o (none-raised s), List·getD-append first m 0 (lineOf first o - 1) (omega (arith, line-count first o)))
-
 -- ---- a text that ends in a line feed
 
 -- such a text is other characters and the line feed
@@ -148,13 +115,6 @@ read-closed = ends-ind (λ t. (size : ℕ) → length t < size → readLines siz
 -- it has as many lines as line feeds
 pub closed-count : (t : List Char) → Ends t → length (startsOf t) ≡ count isLf t
 closed-count = ends-ind (λ t. length (startsOf t) ≡ count isLf t) count-snoc
-
--- the starts of any text are in it
-pub starts-of-at-most : (t : List Char) → AtMost (length t) (startsOf t)
-starts-of-at-most t = rw (zero-add (length t)) at (read-at-most (length t) 0 t (0 ∷ []) (omega arith, tt))
-
-pub starts-of-from-zero : (t : List Char) → FromZero (startsOf t)
-starts-of-from-zero t = read-from-zero (length t) 0 t (0 ∷ []) (record { some = omega arith; first = refl })
 
 -- ---- the starts of two texts that are joined
 pub read-joined : (a b : List Char) → Ends a → 1 ≤ length b → startsOf (a ++ b) ≡ over (length a) (startsOf a) (startsOf b)

@@ -7,7 +7,7 @@ use mathlib.Core.List.{List, [], _∷_}
 use lib.ListN.{length}
 use Rattle.utf8.specs.declared.Char.{Char}
 use Rattle.position.specs.declared.Line.{Line}
-use Rattle.position.specs.Lines.{lineOf, lineStart, startOf, columnOf, firstLine, StrictlyRising}
+use Rattle.position.specs.Lines.{lineOf, lineStart, lineIn, columnOf, firstLine, StrictlyRising}
 use Rattle.lines.specs.Starts.{readLines}
 use Rattle.lines.specs.Current.{readLine}
 
@@ -15,8 +15,7 @@ use Rattle.lines.specs.Current.{readLine}
 pub record Current (starts : List ℕ) (offset : ℕ) (line : Line) : Type 0 where
   pub rising : StrictlyRising starts
   pub last : lineStart starts (length starts) ≤ offset
-  pub number : line .number ≡ lineOf starts offset
-  pub start : line .start ≡ startOf starts offset
+  pub answer : line ≡ lineIn starts (lineOf starts offset)
   pub column : offset - line .start + 1 ≡ columnOf starts offset
 
 pub record LineLaw : Type 0 where

@@ -1,19 +1,18 @@
 -- Laws of the line and the column of an offset.
 use Prim.Native.Nat.{ℕ, zero, suc, _+_, _-_, _≤_, _<_}
-use mathlib.Core.Path.{_≡_, refl, ap, sym, _∙_}
+use mathlib.Core.Path.{_≡_, refl, _∙_}
 use mathlib.Core.Bool.{true, false}
-use mathlib.Core.List.{List, [], _∷_, _++_, map}
+use mathlib.Core.List.{List, [], _∷_, _++_}
 use mathlib.Core.Logic.{⊎-elim}
-use native.Mathlib.Nat.{zero-add, suc-add, le-of-suc-le-suc, not-suc-le-zero}
+use native.Mathlib.Nat.{le-of-suc-le-suc, not-suc-le-zero}
 use native.Mathlib.Omega.{arith}
 use lib.Dec.{ltb}
-use lib.ListN.{length, drop, getD, drop-of-length-le, length-append, length-map, List·getD-map, List·getD-append}
-use lib.Seq.{getD-append-add, getD-append-seam}
+use lib.ListN.{length, drop, getD, drop-of-length-le, length-append, List·getD-append}
+use lib.Seq.{getD-append-seam}
 use borrow.Author.Tests.{lt-ltb, le-ltb, ltb-true, ltb-false}
 use Rattle.basics.proofs.Choice.{cond-ind, either}
-use Rattle.basics.proofs.Lists.{drop-next, getD-any}
-use Rattle.basics.proofs.Tests.{same-lt}
-use Rattle.position.specs.Lines.{lineOf, lineStart, startOf, columnOf, StrictlyRising}
+use Rattle.basics.proofs.Lists.{drop-next}
+use Rattle.position.specs.Lines.{lineOf, lineStart, startOf, StrictlyRising}
 
 -- one start more, from the place p on
 module _ (s : List ℕ) (o p : ℕ) where
@@ -65,7 +64,7 @@ from-zero-append s t z = record {
   first = List·getD-append s t 0 0 (z .some) ∙ z .first;
 }
 
--- ---- a list in two parts
+-- ---- starts up to an offset
 
 -- every start is at most m
 abbrev pub AtMost : ℕ → List ℕ → Type 0
@@ -80,48 +79,10 @@ pub at-most-append : (m : ℕ) (s t : List ℕ) → AtMost m s → AtMost m t �
 at-most-append m [] t h g = g
 at-most-append m (x ∷ s) t h g = (h .0, at-most-append m s t (h .1) g)
 
-pub line-append : (s t : List ℕ) (o : ℕ) → AtMost o s → lineOf (s ++ t) o ≡ length s + lineOf t o
-unfolding lineOf
-line-append [] t o h = sym (zero-add (lineOf t o))
-line-append (x ∷ s) t o h = rw (le-ltb o x (h .0), line-append s t o (h .1), suc-add)
-
 pub line-all : (s : List ℕ) (o : ℕ) → AtMost o s → lineOf s o ≡ length s
 unfolding lineOf
 line-all [] o h = refl
 line-all (x ∷ s) o h = rw (le-ltb o x (h .0), line-all s o (h .1))
-
-pub column-append : (s t : List ℕ) (o : ℕ) → AtMost o s → 1 ≤ lineOf t o → columnOf (s ++ t) o ≡ columnOf t o
-unfolding columnOf startOf
-column-append s t o h k =
-    let e : length s + lineOf t o - 1 ≡ length s + (lineOf t o - 1) = omega arith in
-    rw (line-append s t o h, e, getD-append-add s t (lineOf t o - 1) 0)
-
--- ---- all starts and the offset raised by n
-
-line-raised-by : (n x o : ℕ) → ltb (n + o) (n + x) ≡ ltb o x
-line-raised-by n x o = same-lt (n + o) (n + x) o x (λ h. omega arith) (λ h. omega arith)
-
-pub line-raised : (n : ℕ) (s : List ℕ) (o : ℕ) → lineOf (map (λ x. n + x) s) (n + o) ≡ lineOf s o
-unfolding lineOf
-line-raised n [] o = refl
-line-raised n (x ∷ s) o = rw (line-raised-by n x o, line-raised n s o)
-
-pub column-raised : (n : ℕ) (s : List ℕ) (o : ℕ) → 1 ≤ length s → columnOf (map (λ x. n + x) s) (n + o) ≡ columnOf s o
-unfolding columnOf startOf
-column-raised n s o h =
-    let k = lineOf s o - 1 in
-    let e : getD (map (λ x. n + x) s) k 0 ≡ n + getD s k 0 =
-    getD-any (map (λ x. n + x) s) k 0 (n + 0) (rw length-map (omega (arith, line-count s o))) ∙ List·getD-map (λ x. n + x) s k 0 in
-    rw (line-raised n s o, e) (omega arith)
-
--- the joined run: the starts of the first text but its last, then those of the second, raised by n
-module _ (n : ℕ) (s : List ℕ) (low : AtMost n s) (t : List ℕ) (o : ℕ) where
-  pub line-joined : lineOf (s ++ map (λ x. n + x) t) (n + o) ≡ length s + lineOf t o
-  line-joined = line-append s (map (λ x. n + x) t) (n + o) (at-most-up s (omega arith) low) ∙ ap (λ k. length s + k) (line-raised n t o)
-
-  pub column-joined : FromZero t → columnOf (s ++ map (λ x. n + x) t) (n + o) ≡ columnOf t o
-  column-joined z =
-      column-append s (map (λ x. n + x) t) (n + o) (at-most-up s (omega arith) low) (rw line-raised (line-one t o z)) ∙ column-raised n t o (z .some)
 
 -- ---- rising starts
 

@@ -46,12 +46,6 @@ module _ (f : File) (table : List ℕ) (p : ℕ) where
     unfolding positionOf
     position-gave h g = rw (e, in-between _ _ _ h g)
 
--- an offset's position leads back to it
-pub position-pos : (f : File) (table : List ℕ) (o : ℕ) → fitting f table ≡ true → o ≤ f .size → positionOf f table (f .base + o) ≡ gave (positionAt (starts f table) o)
-position-pos f table o e h =
-    let back : f .base + o - f .base ≡ o = omega arith in
-    rw back at (position-gave f table (f .base + o) e (omega arith) (omega arith))
-
 module _ (f : File) (table : List ℕ) (line o : ℕ) where
   pub start-unfit : fitting f table ≡ false → lineStartOf f table line o ≡ refused 6
   unfolding lineStartOf

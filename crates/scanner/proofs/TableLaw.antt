@@ -1,9 +1,8 @@
 -- Every scan has the law of specs/TableLaw.antt: what it comes to is what its source, its state and the length of its table say.
 use Prim.Native.Nat.{ℕ, zero, suc, _+_, _≤_}
-use mathlib.Core.Path.{_≡_, refl, sym, ap, _∙_}
+use mathlib.Core.Path.{_≡_, refl, ap, _∙_}
 use mathlib.Core.Bool.{Bool, true, false}
 use mathlib.Core.List.{List, [], _++_}
-use native.Mathlib.Omega.{arith}
 use lib.ListN.{length, take, drop, length-append}
 use lib.Seq.{sets, length-take-le}
 use Rattle.utf8.specs.declared.Char.{Char}
@@ -25,7 +24,7 @@ use Rattle.state.specs.State.{advance}
 use Rattle.state.specs.Fits.{fileOf, fits}
 use Rattle.scanner.specs.Scan.{view, written, toArea, tokenOf, refusalFor, refusalOf, ScanLeft, withError, gaveBy, unless, scanBy, scanOf}
 use Rattle.scanner.specs.TableLaw.{Alike, SameScan, TableLaw}
-use Rattle.scanner.proofs.Scans.{Held, held, written-behind, scan-unfit}
+use Rattle.scanner.proofs.Scans.{held, written-behind, scan-unfit}
 use Rattle.scanner.proofs.Fitting.{passes}
 
 -- a scan that is not refused comes to what is given

@@ -1,10 +1,10 @@
 -- A state that fits alone fits some table: `fitsAlone` asks all that the state alone can tell.
 use Prim.Native.Nat.{ℕ, zero, suc, pred, _+_, _-_, _≤_}
 use mathlib.Core.Path.{_≡_, refl, ap, _∙_}
-use mathlib.Core.Bool.{Bool, true, false, cond, _&&_}
+use mathlib.Core.Bool.{true, _&&_}
 use mathlib.Core.List.{List, [], _∷_, _++_}
 use native.Mathlib.Omega.{arith}
-use lib.Dec.{eqb, ltb, leb}
+use lib.Dec.{eqb, leb}
 use lib.ListN.{length, getD, replicate, length-append}
 use lib.Seq.{getD-at}
 use borrow.Author.Tests.{leb-true, eqb-true, le-ltb, eq-eqb}

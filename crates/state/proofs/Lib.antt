@@ -1,2 +1,3 @@
 pub mod ReadBack
 pub mod Alone
+pub mod Lined

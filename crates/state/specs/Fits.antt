@@ -15,11 +15,13 @@ abbrev pub fileOf : State → File
 fileOf s = record { base = s .base; size = s .size; lines = s .lines }
 
 -- "A state whose two numbers are not the line count and the last start is one that does not fit":
--- the line is the line count. Its start is to be the last start, so it is not above the offset. With
--- one line it is to be the first start too, so it is 0.
+-- the line is the line count. Its start is to be the last start, so it is not above the offset
+abbrev pub isLastLine : State → Bool
+isLastLine s = eqb (s .line .number) (s .lines) && leb (s .line .start) (s .offset)
+
+-- with one line, its start is to be the first start too, so it is 0
 abbrev pub fitsLine : State → Bool
-fitsLine s =
-    eqb (s .line .number) (s .lines) && leb (s .line .start) (s .offset) && cond (ltb 1 (s .lines)) true (eqb (s .line .start) 0)
+fitsLine s = isLastLine s && cond (ltb 1 (s .lines)) true (eqb (s .line .start) 0)
 
 -- "offset above place or size, base + size too large, line count 0", and the line: what the state
 -- alone tells

@@ -1,7 +1,7 @@
 // The state of a scan, which goes from call to call by value.
 use position::Line;
 ghost use mathlib.Core.Path.{_≡_};
-ghost use Rattle.state.specs.Fits.{fileOf, fitsLine, fitsAlone, fitsTable, fitsLines, fits};
+ghost use Rattle.state.specs.Fits.{fileOf, isLastLine, fitsAlone, fitsLines, fits};
 ghost use Rattle.state.specs.State.{fresh, advance};
 
 pub struct State {
@@ -83,20 +83,14 @@ impl State {
         }
     }
 
-    // Does the line go together with the line count and the offset?
-    fn fits_line(self) -> bool
-        ensures { λ r. ⌜ r ≡ fitsLine self ⌝ }
+    // Is the line the last one, as far as the state tells?
+    fn is_last_line(self) -> bool
+        ensures { λ r. ⌜ r ≡ isLastLine self ⌝ }
     {
         if self.line.number != self.lines {
             return false;
         }
-        if self.line.start > self.offset {
-            return false;
-        }
-        if self.lines > 1 {
-            return true;
-        }
-        self.line.start == 0
+        self.line.start <= self.offset
     }
 
     // Does the state go together with itself?
@@ -115,37 +109,40 @@ impl State {
         if !self.file().in_range() {
             return false;
         }
-        self.fits_line()
-    }
-
-    // Does it go together with a table of line starts?
-    fn fits_table(self, table: &[usize]) -> bool
-        ensures { λ r. ⌜ r ≡ fitsTable self (now (table .entry)) ⌝ }
-    {
-        if !self.file().fits(table) {
+        if !self.is_last_line() {
             return false;
         }
-        table[self.lines - 1] == self.line.start
+        if self.lines > 1 {
+            return true;
+        }
+        self.line.start == 0
     }
 
-    // Does it go together with itself and with a table of line starts?
+    // Does it go together with itself and with a table of line starts? The table tells that there is
+    // a line, and that a first line starts at 0.
     pub fn fits_lines(self, table: &[usize]) -> bool
         ensures { λ r. ⌜ r ≡ fitsLines self (now (table .entry)) ⌝ }
     {
-        if !self.fits_alone() {
+        if self.offset > self.place {
             return false;
         }
-        self.fits_table(table)
+        if self.offset > self.size {
+            return false;
+        }
+        if !self.file().fits(table) {
+            return false;
+        }
+        if !self.is_last_line() {
+            return false;
+        }
+        table[self.lines - 1] == self.line.start
     }
 
     // Does it go together with all that a scan is lent?
     pub fn fits(self, src: &[u8], table: &[usize], list: &[usize]) -> bool
         ensures { λ r. ⌜ r ≡ fits self (now (src .entry)) (now (table .entry)) (now (list .entry)) ⌝ }
     {
-        if !self.fits_alone() {
-            return false;
-        }
-        if !self.fits_table(table) {
+        if !self.fits_lines(table) {
             return false;
         }
         if self.place > src.len() {

@@ -1,6 +1,5 @@
 -- `write::write_error` meets its contract: the column counts from the start of the line, and the list has room.
 use mathlib.Core.Path.{ap, _∙_}
-use native.Mathlib.Omega.{arith}
 use borrow.Author.Needs.{needs}
 use Rattle.errors.specs.Errors.{AddLeft}
 use Rattle.errors.proofs.Laws.{add-gave}

@@ -1,9 +1,10 @@
 -- `State::fits_alone` meets its contract: each test of the code is one of the definition's.
 use mathlib.Core.Path.{_≡_, sym, _∙_}
 use borrow.Author.Needs.{needs}
-use borrow.Author.Tests.{le-leb, lt-leb, not-true, not-false}
+use borrow.Author.Tests.{le-leb, lt-leb, lt-ltb, le-ltb, not-true, not-false}
 use Rattle.position.specs.Place.{inRange}
-use Rattle.state.specs.Fits.{fileOf}
+use Rattle.state.specs.declared.state.State.{State}
+use Rattle.state.specs.Fits.{fileOf, fitsLine, fitsAlone}
 use Rattle.state.proofs.state.State.fits_alone.Statement.{statement}
 use Rattle.state.proofs.state.State.fits_alone.Tie as tie
 
@@ -37,19 +38,38 @@ returns-4 c =
       sym (ranged f) ∙ not-true _ (c .if4 .taken),
     )
 
-fits-line-requires : tie.Need-fits-line-requires
-fits-line-requires c κs = search needs
+is-last-line-requires : tie.Need-is-last-line-requires
+is-last-line-requires c κs = search needs
+
+-- ---- after the test of the line
+module _ (c : tie.After-is-last-line) where
+  abbrev self : State
+  self = c .before .before .before .before .before .before .before .before .before .before .args .self
+
+  -- what is left of the definition
+  left : fitsAlone self ≡ fitsLine self
+  left =
+      let f = c .before .before in
+      rw (
+        le-leb _ _ (f .before .before .before .before .before .before .if1 .left),
+        le-leb _ _ (f .before .before .before .before .if2 .left),
+        le-leb _ _ (f .before .before .if3 .left),
+        sym (ranged f) ∙ not-false _ (c .before .if4 .left),
+      )
 
 returns-5 : tie.Need-returns-5
-returns-5 c =
-    let f = c .before .before in
-    rw (
-      le-leb _ _ (f .before .before .before .before .before .before .if1 .left),
-      le-leb _ _ (f .before .before .before .before .if2 .left),
-      le-leb _ _ (f .before .before .if3 .left),
-      sym (ranged f) ∙ not-false _ (c .before .if4 .left),
-      c .fits-line .ensures,
-    )
+returns-5 c = sym (left (c .before) ∙ rw (sym (c .before .is-last-line .ensures) ∙ not-true _ (c .if5 .taken)))
+
+returns-6 : tie.Need-returns-6
+returns-6 c =
+    let e = c .before .before in
+    sym (left (e .before) ∙ rw (sym (e .before .is-last-line .ensures) ∙ not-false _ (e .if5 .left), lt-ltb _ _ (c .if6 .taken)))
+
+returns-7 : tie.Need-returns-7
+returns-7 c =
+    let m = c .before in
+    let e = m .before .before in
+    sym (left (e .before) ∙ rw (sym (e .before .is-last-line .ensures) ∙ not-false _ (e .if5 .left), le-ltb _ _ (m .if6 .left)))
 
 pub fits-alone-spec : {M : Type 1} → statement M
 fits-alone-spec =
@@ -61,5 +81,7 @@ fits-alone-spec =
     file-requires
     in-range-requires
     returns-4
-    fits-line-requires
-    returns-5)
+    is-last-line-requires
+    returns-5
+    returns-6
+    returns-7)
