@@ -23,7 +23,7 @@ use Rattle.state.specs.declared.state.State.{State}
 use Rattle.scanner.specs.Steps.{startsFrom}
 use Rattle.scanner.proofs.Pass.{skip-feeds, left, skipped, token, skipped-is, left-behind, read, token-feeds}
 
-none-left : {A : Type 0} (l : List A) → length l ≤ 0 → l ≡ []
+pub none-left : {A : Type 0} (l : List A) → length l ≤ 0 → l ≡ []
 none-left [] h = refl
 none-left (x ∷ l) h = absurd (omega arith)
 

@@ -2,13 +2,13 @@
 use Prim.Native.Nat.{ℕ, _+_, _-_, _≤_, _<_, _^_}
 use mathlib.Core.Path.{_≡_, refl, sym, ap, _∙_}
 use mathlib.Core.Bool.{Bool, true, false, not, _&&_, _||_, true≢false, false≢true}
-use mathlib.Core.List.{List, _++_}
+use mathlib.Core.List.{List, [], _++_}
 use native.Mathlib.Omega.{arith}
 use native.Mathlib.Nat.{add-zero}
 use lib.Dec.{leb, ltb}
 use lib.ListN.{length, drop}
 use lib.Seq.{sets}
-use borrow.Author.Tests.{eqb-true, leb-true, leb-false, ltb-true, lt-ltb, le-ltb, le-leb}
+use borrow.Author.Tests.{eqb-true, ltb-true, le-leb, eq-eqb}
 use Rattle.basics.proofs.Choice.{and-split}
 use Rattle.utf8.specs.Chars.{chars}
 use Rattle.utf8.specs.Count.{isLf}
@@ -22,32 +22,17 @@ use Rattle.state.specs.declared.state.State.{State}
 use Rattle.state.specs.Fits.{fileOf}
 use Rattle.scanner.specs.declared.quick.Tried.{Tried}
 use Rattle.scanner.specs.Steps.{toWrite, refusalBy, isPlain, startsFrom, positionBy, Known}
-use Rattle.scanner.specs.Quick.{notDone, endsInFeed, startAfter, isQuick, QuickReady, quickToken, Tries}
+use Rattle.scanner.specs.Quick.{notDone, endsInFeed, startAfter, isQuick, PlainReady, QuickReady, plainToken, quickToken, Tries}
 use Rattle.scanner.proofs.Pass as pass
 use Rattle.scanner.proofs.Refusals.{refusal-none, list-none}
 use Rattle.scanner.proofs.Committed.{plain, commit-plain-is}
 use Rattle.scanner.proofs.Scans.{Held, held, scan-gave}
+use Rattle.scanner.proofs.LineStarts.{none-left}
 use Rattle.scanner.proofs.Ends.{blanks-starts, starts-parted}
 
 -- what is not done
 pub tries-none : (src : List ℕ) (s : State) (table list : List ℕ) {r : Tried} → r ≡ notDone s → Tries src s table list r table
 tries-none src s table list {r} e = (λ _. refl, λ d. absurd (false≢true (sym (ap (λ (t : Tried). t .done) e) ∙ d)))
-
--- the first test of a quick token, as the code makes it
-module _ (x : Lexed) (size offset : ℕ) {t : Bool} (e : t ≡ isPlain x) where
-  pub passes-first : not t || leb size offset ≡ false → isPlain x && ltb offset size ≡ true
-  passes-first f = go (isPlain x) (rw (sym e) f)
-    where
-      go : (a : Bool) → not a || leb size offset ≡ false → a && ltb offset size ≡ true
-      go true h = lt-ltb offset size (leb-false size offset h)
-      go false h = absurd (true≢false h)
-
-  pub fails-first : not t || leb size offset ≡ true → isPlain x && ltb offset size ≡ false
-  fails-first f = go (isPlain x) (rw (sym e) f)
-    where
-      go : (a : Bool) → not a || leb size offset ≡ true → a && ltb offset size ≡ false
-      go true h = le-ltb offset size (leb-true size offset h)
-      go false h = refl
 
 module _ (src : List ℕ) (s : State) (table list : List ℕ) (b : Skipped) (x : Lexed) (n : ℕ) (k : Known src s table list b x n) where
   kept : Held s src table list
@@ -88,19 +73,25 @@ module _ (src : List ℕ) (s : State) (table list : List ℕ) (b : Skipped) (x :
     nothing : toWrite x ≡ 0
     nothing = rw (plain x p .1, plain x p .2)
 
+    plain-ready : length src < 2 ^ 63 → PlainReady s b x
+    plain-ready short =
+        record {
+          behind = behind;
+          position = position-fits;
+          text = plain x p .1;
+          value = plain x p .2;
+          bytes = pass.lengths-fit src s (b .end) at x (k .reads .token) (kept .place) short 0 (omega arith) (omega (arith, nothing));
+        }
+
     -- whose starts fit the table
     module _ (g : b .lfs + x .lfs ≤ length table - s .lines) where
       ready : length src < 2 ^ 63 → QuickReady src s b x table
       ready short =
           record {
+            plain = plain-ready short;
             some = fit (fileOf s) table (kept .fitted) .some;
-            behind = behind;
             starts = blanks-starts src s (b .end) at feeds (omega arith) (pass.read-bound src s (b .end) at x (k .reads .token)) l;
             tableRoom = omega (arith, lines-fit);
-            position = position-fits;
-            text = plain x p .1;
-            value = plain x p .2;
-            bytes = pass.lengths-fit src s (b .end) at x (k .reads .token) (kept .place) short 0 (omega arith) (omega (arith, nothing));
           }
 
       counted : b .lfs + x .lfs ≡ length (startsFrom src s read)
@@ -127,17 +118,41 @@ module _ (src : List ℕ) (s : State) (table list : List ℕ) (b : Skipped) (x :
           written : after ≡ sets table (s .lines) (startsFrom src s read)
           written = w ∙ ap (sets table (s .lines)) (sym (starts-parted src s (b .end) at x (k .reads .token) l f))
 
-  -- ---- what passes both tests
-  module _ (q : isQuick src s x (s .offset + n) ≡ true) (g : b .lfs + x .lfs ≤ length table - s .lines) where
-    passed : (isPlain x ≡ true) × (s .offset + read < s .size) × (endsInFeed src x ≡ true)
+  -- ---- what passes the first test
+  module _ (q : isQuick s x (s .offset + n) ≡ true) where
+    passed : (isPlain x ≡ true) × (s .offset + read < s .size)
     passed =
-        let e = and-split (isPlain x && ltb (s .offset + n) (s .size)) (endsInFeed src x) q in
-        let f = and-split (isPlain x) (ltb (s .offset + n) (s .size)) (e .0) in
-        (f .0, rw (sym (k .chars)) (ltb-true _ _ (f .1)), e .1)
+        let f = and-split (isPlain x) (ltb (s .offset + n) (s .size)) q in
+        (f .0, rw (sym (k .chars)) (ltb-true _ _ (f .1)))
 
-    pub quick-ready : length src < 2 ^ 63 → QuickReady src s b x table
-    quick-ready = ready (passed .0) (passed .1) g
+    pub quick-plain : length src < 2 ^ 63 → PlainReady s b x
+    quick-plain = plain-ready (passed .0) (passed .1)
 
-    pub tries-done : {after : List ℕ} {r : Tried} → after ≡ sets table (s .lines) (startsFrom src s (b .end - s .place) ++ startAfter x (s .offset + n))
-        → r ≡ quickToken s b x (s .offset + n) after → Tries src s table list r after
-    tries-done w e = given (passed .0) (passed .1) g (passed .2) (rw (sym (k .chars)) w) (rw (sym (k .chars)) e)
+    -- without a line feed it stays on its line
+    module _ (z : b .lfs + x .lfs ≡ 0) where
+      no-starts : startsFrom src s (b .end - s .place) ++ startAfter x (s .offset + read) ≡ []
+      no-starts =
+          let e = blanks-starts src s (b .end) at feeds (omega arith) (pass.read-bound src s (b .end) at x (k .reads .token)) (passed .1) in
+          let none : startsFrom src s (b .end - s .place) ≡ [] = none-left _ (omega (arith, e)) in
+          rw (none, eq-eqb (x .lfs) 0 (omega arith))
+
+      feedless : endsInFeed src x ≡ true
+      unfolding endsInFeed
+      feedless = rw (eq-eqb (x .lfs) 0 (omega arith))
+
+      -- its line is the table's last
+      on-line : plainToken s b x (s .offset + read) (s .lines) (s .line) ≡ quickToken s b x (s .offset + read) table
+      on-line = rw (z, add-zero (s .lines), kept .line)
+
+      pub tries-on-line : {r : Tried} → r ≡ plainToken s b x (s .offset + n) (s .lines) (s .line) → Tries src s table list r table
+      tries-on-line e =
+          given (passed .0) (passed .1) (omega (arith, z)) feedless (rw no-starts) (rw (sym (k .chars)) e ∙ on-line)
+
+    -- with one it ends in it, and its starts fit the table
+    module _ (f : endsInFeed src x ≡ true) (g : b .lfs + x .lfs ≤ length table - s .lines) where
+      pub quick-ready : length src < 2 ^ 63 → QuickReady src s b x table
+      quick-ready = ready (passed .0) (passed .1) g
+
+      pub tries-done : {after : List ℕ} {r : Tried} → after ≡ sets table (s .lines) (startsFrom src s (b .end - s .place) ++ startAfter x (s .offset + n))
+          → r ≡ quickToken s b x (s .offset + n) after → Tries src s table list r after
+      tries-done w e = given (passed .0) (passed .1) g f (rw (sym (k .chars)) w) (rw (sym (k .chars)) e)

@@ -6,6 +6,7 @@ use mathlib.Core.Bool.{Bool, true, false, cond, _&&_}
 use mathlib.Core.List.{List, [], _∷_}
 use lib.Dec.{eqb, ltb}
 use lib.ListN.{length, getD}
+use Rattle.position.specs.declared.Line.{Line}
 use Rattle.position.specs.Lines.{lineIn}
 use Rattle.blanks.specs.declared.Skipped.{Skipped}
 use Rattle.lexer.specs.declared.lexed.Lexed.{Lexed}
@@ -26,32 +27,40 @@ endsInFeed src x = cond (eqb (x .lfs) 0) true (cond (ltb 1 (x .lfs)) false (eqb 
 abbrev pub startAfter : Lexed → ℕ → List ℕ
 startAfter x offset = cond (eqb (x .lfs) 0) [] (offset ∷ [])
 
--- a plain token that ends before the size at an offset, and has no line feed but perhaps its last
--- byte
-abbrev pub isQuick : List ℕ → State → Lexed → ℕ → Bool
-isQuick src s x offset = isPlain x && ltb offset (s .size) && endsInFeed src x
+-- a plain token that ends before the size at an offset
+abbrev pub isQuick : State → Lexed → ℕ → Bool
+isQuick s x offset = isPlain x && ltb offset (s .size)
 
--- what such a token after blanks is given by: the starts of the blanks, room in the table, and
--- numbers that fit
-pub record QuickReady (src : List ℕ) (s : State) (b : Skipped) (x : Lexed) (table : List ℕ) : Type 0 where
-  pub some : 1 ≤ s .lines
+-- what a plain token after blanks is given by: numbers that fit
+pub record PlainReady (s : State) (b : Skipped) (x : Lexed) : Type 0 where
   pub behind : s .place ≤ b .end
-  pub starts : b .lfs ≡ length (startsFrom src s (b .end - s .place))
-  pub tableRoom : s .lines + (b .lfs + x .lfs) ≤ length table
   pub position : positionBy s (b .end) < 2 ^ 64
   pub text : x .«text_differs» ≡ false
   pub value : x .«value_differs» ≡ false
   pub bytes : b .end + 1 + textLen x + valueLen x < 2 ^ 64
 
--- the state after it, with the table that has its line starts, and the token
+-- and where it has no line feed but perhaps its last byte: the starts of the blanks, and room in the
+-- table
+pub record QuickReady (src : List ℕ) (s : State) (b : Skipped) (x : Lexed) (table : List ℕ) : Type 0 where
+  pub plain : PlainReady s b x
+  pub some : 1 ≤ s .lines
+  pub starts : b .lfs ≡ length (startsFrom src s (b .end - s .place))
+  pub tableRoom : s .lines + (b .lfs + x .lfs) ≤ length table
+
+-- the token, and the state after it on a line of so many
+abbrev pub plainToken : State → Skipped → Lexed → ℕ → ℕ → Line → Tried
+plainToken s b x offset lines line =
+    record {
+      done = true;
+      state = advance s (x .end) offset (x .mark) lines (s .errors) line;
+      token = tokenBy x (b .end) (positionBy s (b .end));
+    }
+
+-- with the table that has its line starts
 abbrev pub quickToken : State → Skipped → Lexed → ℕ → List ℕ → Tried
 quickToken s b x offset table =
     let lines = s .lines + (b .lfs + x .lfs) in
-    record {
-      done = true;
-      state = advance s (x .end) offset (x .mark) lines (s .errors) (lineIn table lines);
-      token = tokenBy x (b .end) (positionBy s (b .end));
-    }
+    plainToken s b x offset lines (lineIn table lines)
 
 -- what is done is what the scan does, with list and area as they are; what is not done leaves the
 -- table as it was

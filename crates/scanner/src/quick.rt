@@ -15,7 +15,7 @@ ghost use mathlib.Core.List.{_++_};
 ghost use lib.ListN.{length};
 ghost use lib.Seq.{sets};
 ghost use Rattle.scanner.specs.Steps.{startsFrom, Known};
-ghost use Rattle.scanner.specs.Quick.{notDone, endsInFeed, startAfter, isQuick, QuickReady, quickToken, Tries};
+ghost use Rattle.scanner.specs.Quick.{notDone, endsInFeed, startAfter, isQuick, PlainReady, QuickReady, plainToken, quickToken, Tries};
 
 // Whether a scan is done; if so, the state after it and the token.
 pub(crate) struct Tried {
@@ -80,19 +80,28 @@ fn record_ends(
     }
 }
 
-// Is it a token that is given at once? It is plain, ends before the size, and has no line feed but
-// perhaps its last byte.
-fn is_quick(src: &[u8], state: State, x: Lexed, offset: usize) -> bool
-    requires { ⌜ (x .lfs ≤ x .end) × (x .end ≤ length (now src)) ⌝ }
-    ensures { λ r. ⌜ r ≡ isQuick (now (src .entry)) state x offset ⌝ }
+// Is it a token that is given at once? It is plain and ends before the size.
+fn is_quick(state: State, x: Lexed, offset: usize) -> bool
+    ensures { λ r. ⌜ r ≡ isQuick state x offset ⌝ }
 {
-    if !is_plain(x) | (state.size <= offset) {
-        return false;
-    }
-    ends_in_feed(src, x)
+    is_plain(x) & (offset < state.size)
 }
 
-// Gives such a token, which ends at an offset.
+// The token that was read, and the state after it, which ends at an offset on a line of so many.
+fn given(state: State, blanks: Skipped, x: Lexed, offset: usize, lines: usize, line: Line) -> Tried
+    requires { ⌜ PlainReady state blanks x ⌝ }
+    ensures { λ r. ⌜ r ≡ plainToken state blanks x offset lines line ⌝ }
+{
+    let token = plain_token(x, blanks.end, position_at(state, blanks.end));
+    let next = state.advanced(x.end, offset, x.mark, lines, state.errors, line);
+    Tried {
+        done: true,
+        state: next,
+        token,
+    }
+}
+
+// Gives such a token, which ends at an offset and has no line feed but perhaps its last byte.
 fn give_quick(
     src: &[u8],
     state: State,
@@ -105,7 +114,6 @@ fn give_quick(
     ensures { λ r. ⌜ (now (table .exit) ≡ sets (now (table .entry)) (state .lines)
         (startsFrom (now (src .entry)) state (blanks .end - state .place) ++ startAfter x offset)) × (r ≡ quickToken state blanks x offset (now (table .exit))) ⌝ }
 {
-    let token = plain_token(x, blanks.end, position_at(state, blanks.end));
     let lines = state.lines + (blanks.lfs + x.lfs);
     record_ends(src, state, blanks, x, offset, table);
     let start = table[lines - 1];
@@ -113,15 +121,11 @@ fn give_quick(
         number: lines,
         start,
     };
-    let next = state.advanced(x.end, offset, x.mark, lines, state.errors, line);
-    Tried {
-        done: true,
-        state: next,
-        token,
-    }
+    given(state, blanks, x, offset, lines, line)
 }
 
-// Tries the token that the lexer read after the blanks; with them, so many characters are read.
+// Tries the token that the lexer read after the blanks; with them, so many characters are read. Most
+// tokens read no line feed, and stay on their line.
 pub(crate) fn try_plain(
     src: &[u8],
     state: State,
@@ -135,10 +139,17 @@ pub(crate) fn try_plain(
     ensures { λ r. ⌜ Tries (now (src .entry)) state (now (table .entry)) (now (list .entry)) r (now (table .exit)) ⌝ }
 {
     let offset = state.offset + read;
-    if !is_quick(src, state, x, offset) {
+    if !is_quick(state, x, offset) {
         return not_done(state);
     }
-    if table.len() - state.lines < blanks.lfs + x.lfs {
+    let feeds = blanks.lfs + x.lfs;
+    if feeds == 0 {
+        return given(state, blanks, x, offset, state.lines, state.line);
+    }
+    if !ends_in_feed(src, x) {
+        return not_done(state);
+    }
+    if table.len() - state.lines < feeds {
         return not_done(state);
     }
     give_quick(src, state, blanks, x, offset, table)

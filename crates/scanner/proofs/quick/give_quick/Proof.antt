@@ -1,21 +1,15 @@
--- `quick::give_quick` meets its contract: the token, the state after it, and the line starts.
+-- `quick::give_quick` meets its contract: the line starts, and the token on the last line of the table.
 use native.Mathlib.Omega.{arith}
 use borrow.Author.Needs.{needs}
 use Rattle.scanner.proofs.quick.give_quick.Statement.{statement}
 use Rattle.scanner.proofs.quick.give_quick.Tie as tie
-
-position-at-requires : tie.Need-position-at-requires
-position-at-requires c κs = search needs
-
-plain-token-requires : tie.Need-plain-token-requires
-plain-token-requires c κs = search needs
 
 add-lines : tie.Need-add-lines
 add-lines c = search needs
 
 add-lines-2 : tie.Need-add-lines-2
 add-lines-2 c =
-    let s = c .before .before .before .before .before .before .before in
+    let s = c .before .before .before .before .before in
     record { fits = omega (arith, s .pre .tableRoom, s .good .1 .1 .1 .1 .1 .0 .1) }
 
 record-ends-requires : tie.Need-record-ends-requires
@@ -26,37 +20,32 @@ sub-start c = search needs
 
 mul-start : tie.Need-mul-start
 mul-start c =
-    let t = c .before .before .before .before .before .before .before in
-    let s = t .before .before .before .before in
+    let r = c .before .before in
+    let s = r .before .before .before .before .before .before .before in
     record { fits = omega (arith, s .pre .tableRoom, s .good .1 .1 .1 .1 .1 .0 .1) }
 
 slice-read-start : tie.Need-slice-read-start
 slice-read-start c = search needs
 
-advanced-requires : tie.Need-advanced-requires
-advanced-requires c κs = search needs
+given-requires : tie.Need-given-requires
+given-requires c κs = search needs
 
 same-length : tie.Need-same-length
 same-length c = search needs
 
 returns : tie.Need-returns
-returns c =
-    let r = c .before .before .before .before in
-    let t = r .before .before .before .before .before in
-    (r .record-ends .ensures, rw (c .advanced .ensures, t .plain-token .ensures, t .before .position-at .ensures))
+returns c = (c .before .before .before .before .record-ends .ensures, c .given .ensures)
 
 pub give-quick-spec : {M : Type 1} → statement M
 give-quick-spec =
     tie.close
     (tie.spec
-    position-at-requires
-    plain-token-requires
     add-lines
     add-lines-2
     record-ends-requires
     sub-start
     mul-start
     slice-read-start
-    advanced-requires
+    given-requires
     same-length
     returns)
