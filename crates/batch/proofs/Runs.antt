@@ -14,6 +14,7 @@ use Rattle.utf8.specs.Chars.{chars}
 use Rattle.position.proofs.Place.{fit}
 use Rattle.blanks.specs.declared.Skipped.{Skipped}
 use Rattle.blanks.specs.Blank.{skip, skippedAt}
+use Rattle.position.specs.Lines.{lineIn}
 use Rattle.position.specs.Place.{inRange}
 use Rattle.state.specs.State.{advance}
 use Rattle.state.specs.Fits.{fileOf, fitsLine, fitsAlone, fitsTable, fitsSource, fitsList, fits}
@@ -70,10 +71,9 @@ pub size-small : (s : State) (src table list : List ℕ) → fits s src table li
 size-small s src table list e = omega (arith, fit (fileOf s) table (held s src table list e .fitted) .top)
 
 -- where a run starts
-pub state-start : (s : State) (src table list : List ℕ) → fits s src table list ≡ true → stateAt s (s .place) (s .mark) (s .lines) table ≡ s
-state-start s src table list h =
+pub state-start : (s : State) (table : List ℕ) → s .line ≡ lineIn table (s .lines) → stateAt s (s .place) (s .mark) (s .lines) table ≡ s
+state-start s table l =
     let e : s .offset + (s .place - s .place) ≡ s .offset = omega arith in
-    let l = held s src table list h .line in
     λ i. advance s (s .place) (e i) (s .mark) (s .lines) (s .errors) (sym l i)
 
 -- ---- blanks that were found

@@ -2,12 +2,14 @@
 use crate::first::first_kinds;
 use crate::round::first_round;
 use crate::round::scan_round;
+use crate::run::state_at;
 use parts::Token;
 use state::State;
 ghost use mathlib.Core.Path.{_≡_};
 ghost use mathlib.Core.Bool.{true};
 ghost use Prim.Native.Nat.{_≤_};
 ghost use lib.ListN.{length};
+ghost use Rattle.position.specs.Lines.{lineIn};
 ghost use Rattle.state.specs.Fits.{fits};
 ghost use Rattle.parts.specs.Layout.{tokenWidth};
 ghost use Rattle.batch.specs.Many.{scanManyOf};
@@ -30,9 +32,13 @@ fn refused(number: u8, state: State) -> Batch
     }
 }
 
-fn gave(state: State, count: usize) -> Batch
-    ensures { λ r. ⌜ r ≡ record { refusal = 0; state = state; count = count } ⌝ }
+// Where the rounds have come to. The line is read from the table once more, so that the rounds need
+// not keep it.
+fn gave(last: State, count: usize, table: &[usize]) -> Batch
+    requires { ⌜ (last .line ≡ lineIn (now table) (last .lines)) × (1 ≤ last .lines) × (last .lines ≤ length (now table)) ⌝ }
+    ensures { λ r. ⌜ r ≡ record { refusal = 0; state = last; count = count } ⌝ }
 {
+    let state = state_at(last, last.place, last.mark, last.lines, table);
     Batch {
         refusal: 0,
         state,
@@ -76,7 +82,7 @@ fn scan_rounds(
     if round.count == 0 {
         return refused(round.refusal, first);
     }
-    gave(round.state, round.count)
+    gave(round.state, round.count, table)
 }
 
 // Scans token after token, as many as `tokens` has room for, ten numbers each. It stops after EOF,

@@ -20,7 +20,13 @@ pub(crate) struct Run {
 
 // The state at a place after simple tokens, whose characters are of one byte each. The table has the
 // line starts before it, so the loop does not keep the last one.
-fn state_at(first: State, place: usize, mark: bool, lines: usize, table: &[usize]) -> State
+pub(crate) fn state_at(
+    first: State,
+    place: usize,
+    mark: bool,
+    lines: usize,
+    table: &[usize],
+) -> State
     requires { ⌜ (first .place ≤ place) × (first .offset + (place - first .place) < 2 ^ 64) × (1 ≤ lines) × (lines ≤ length (now table)) ⌝ }
     ensures { λ r. ⌜ r ≡ stateAt first place mark lines (now (table .entry)) ⌝ }
 {

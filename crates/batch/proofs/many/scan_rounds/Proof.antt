@@ -5,6 +5,9 @@ use mathlib.Core.Bool.{cond}
 use native.Mathlib.Omega.{arith}
 use lib.ListN.{length}
 use borrow.Author.Needs.{needs}
+use Rattle.position.proofs.Place.{fit}
+use Rattle.state.specs.Fits.{fileOf}
+use Rattle.scanner.proofs.Scans.{held}
 use Rattle.batch.specs.Run.{Comes}
 use Rattle.batch.specs.Many.{tokenRoom}
 use Rattle.batch.proofs.Given.{none-given, some-given}
@@ -96,7 +99,14 @@ returns c =
     rw (c .refused .ensures) (none-given _ _ _ _ _ _ (s .pre .1) _ _ _ _ _ _ (comes-end _ _ i (l .loop-test .left)) zero (comes-none _ _ i (l .loop-test .left) zero))
 
 gave-requires : tie.Need-gave-requires Inv-loop μ-loop
-gave-requires c κs = tt
+gave-requires c κs =
+    let l = c .before .before .before in
+    let a = start (l .before .before .before) .args in
+    let r = l .before .loop in
+    let s = r .round .state in
+    let k = held s (a .src .now) (r .table) (r .list) (r .inv .4 .fit) in
+    let f = fit (fileOf s) (r .table) (k .fitted) in
+    (k .line, f .some, f .held)
 
 same-length-5 : tie.Need-same-length-5 Inv-loop μ-loop
 same-length-5 c = search needs
@@ -112,9 +122,9 @@ same-length-8 c = search needs
 
 returns-2 : tie.Need-returns-2 Inv-loop μ-loop
 returns-2 c =
-    let l = c .before .before .before in
+    let l = c .before .before .before .before in
     let s = start (l .before .before .before) in
-    rw (c .gave .ensures) (some-given _ _ _ _ _ _ (s .pre .1) _ _ _ _ _ _ (comes-end _ _ (l .before .loop .inv .4) (l .loop-test .left)) (c .before .if1 .left))
+    rw (c .gave .ensures) (some-given _ _ _ _ _ _ (s .pre .1) _ _ _ _ _ _ (comes-end _ _ (l .before .loop .inv .4) (l .loop-test .left)) (c .before .before .if1 .left))
 
 pub scan-rounds-spec : {M : Type 1} → statement M
 scan-rounds-spec =

@@ -43,7 +43,7 @@ loop-holds c =
     let s = start (c .before) in
     let a = s .args in
     rw (c .begun .ensures)
-    (refl, refl, omega arith, λ _. s .pre .3, subst (λ t. Leads (a .room) (a .src .now) (a .list .now) (a .first) (a .table .now) (a .tokens .now) (a .from) t (a .table .now) (a .tokens .now) (a .from)) (sym (state-start (a .first) (a .src .now) (a .table .now) (a .list .now) (s .pre .0))) (leads-here (a .room) (a .src .now) (a .list .now) (a .first) (a .table .now) (a .tokens .now) (a .from) (s .pre .0) (omega (arith, s .pre .3))))
+    (refl, refl, omega arith, λ _. s .pre .3, subst (λ t. Leads (a .room) (a .src .now) (a .list .now) (a .first) (a .table .now) (a .tokens .now) (a .from) t (a .table .now) (a .tokens .now) (a .from)) (sym (state-start (a .first) (a .table .now) (held (a .first) (a .src .now) (a .table .now) (a .list .now) (s .pre .0) .line))) (leads-here (a .room) (a .src .now) (a .list .now) (a .first) (a .table .now) (a .tokens .now) (a .from) (s .pre .0) (omega (arith, s .pre .3))))
 
 next-simple-requires : tie.Need-next-simple-requires Inv-loop μ-loop
 next-simple-requires c κs =
