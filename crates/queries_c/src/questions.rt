@@ -1,4 +1,4 @@
-// The exported questions about the state that the first seven numbers of a slice are. Each answers
+// The exported questions about the state that the first nine numbers of a slice are. Each answers
 // the number of its refusal, or 0, and writes what it gives to a lent slice. A slice that is too
 // short for a state or an answer is refused by 6, and nothing is written.
 use crate::layout::ERROR;
