@@ -1,5 +1,5 @@
--- The current line, which is the line of the offset up to which a text has been read: "The state
--- shall carry the line and the line start of its offset".
+-- The current line: "The state shall carry the line and the line start of its offset". It goes on
+-- from character to character. That it is the line of the offset is a law, LineLaw.antt.
 use Prim.Native.Nat.{ℕ, suc}
 use mathlib.Core.Bool.{cond, _&&_}
 use mathlib.Core.List.{List, [], _∷_}

@@ -18,14 +18,14 @@ pub record Reading : Type 0 where
   pub rest : List Char
   pub place : ℕ
   pub offset : ℕ
-  -- the line starts so far, and the line of the offset
+  -- the line starts so far, and the current line
   pub lines : List ℕ
   pub line : Line
   -- errors so far, and the pending mark
   pub errors : List Error
   pub mark : Bool
 
--- "at the offset then reached, with line and column": they come from the line of that offset
+-- "at the offset then reached, with line and column": they are those of the current line
 abbrev pub errorAt : ℕ → ℕ → Line → Error
 errorAt number offset line =
     record { offset = offset; line = line .number; column = offset - line .start + 1; number = number }

@@ -5,10 +5,10 @@ use mathlib.Core.Bool.{Bool, true, false, cond, _&&_}
 use mathlib.Core.List.{List, [], _∷_, _++_}
 use native.Mathlib.Omega.{arith}
 use native.Mathlib.Nat.{add-zero, add-assoc}
-use lib.Dec.{eqb, leb}
+use lib.Dec.{eqb}
 use lib.ListN.{length, take, drop, length-append}
 use lib.Seq.{sets, sets-eq, length-take-le}
-use borrow.Author.Tests.{leb-true, eqb-true}
+use borrow.Author.Tests.{leb-true}
 use Rattle.basics.proofs.Choice.{and-split}
 use Rattle.utf8.specs.Chars.{widths}
 use Rattle.position.specs.declared.Line.{Line}
@@ -30,7 +30,8 @@ use Rattle.lexer.specs.Placed.{Placed, placed, said}
 use Rattle.reading.specs.Reading.{Reading, errorAt, newErrors, after}
 use Rattle.state.specs.declared.state.State.{State}
 use Rattle.state.specs.State.{advance}
-use Rattle.state.specs.Fits.{fileOf, fitsLine, fitsAlone, fitsTable, fitsSource, fitsList, fits}
+use Rattle.state.proofs.Lined.{lined-line}
+use Rattle.state.specs.Fits.{fileOf, mayBeLast, fitsLine, fitsAlone, fitsTable, fitsSource, fitsList, fits}
 use Rattle.scanner.specs.Scan.{view, written, tokenStart, toArea, tokenOf, refusalOf, ScanLeft, refusedBy, stateOf, withError, gaveBy, unless, scanBy, scanOf}
 use Rattle.scanner.specs.Steps.{refusalBy, stateBy, tokenBy, startsFrom, Ready, leftOf, commitOf}
 use Rattle.scanner.proofs.Refusals.{passed}
@@ -53,15 +54,14 @@ held s src table list e =
     let f = and-split (fitting (fileOf s) table) _ (d .1) in
     let own = and-split _ (fitsLine s) (d .0) in
     let g = and-split _ (inRange (fileOf s)) (own .0) in
-    let l = and-split (eqb (s .line .number) (s .lines) && leb (s .line .start) (s .offset)) _ (own .1) in
-    let m = and-split (eqb (s .line .number) (s .lines)) (leb (s .line .start) (s .offset)) (l .0) in
-    let number = eqb-true (s .line .number) (s .lines) (m .0) in
-    let start = eqb-true (lineStart table (s .lines)) (s .line .start) (f .1) in
+    let m = and-split (mayBeLast s) _ (own .1) in
+    let line = lined-line s table (b .0) in
+    let start : lineStart table (s .lines) ≡ s .line .start = sym (ap (λ (l : Line). l .start) line) in
     record {
       fitted = f .0;
       offset = leb-true _ _ (and-split _ _ (and-split _ _ (g .0) .0) .0);
-      last = rw start (leb-true _ _ (m .1));
-      line = λ i. record { number = number i; start = sym start i };
+      last = rw start (leb-true _ _ (and-split (eqb (s .line .number) (s .lines)) _ (m .0) .1));
+      line = line;
       place = leb-true _ _ (b .1);
       errors = leb-true _ _ (a .1);
     }

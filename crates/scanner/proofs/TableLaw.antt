@@ -1,6 +1,7 @@
 -- Every scan has the law of specs/TableLaw.antt: what it comes to is what its source, its state and the length of its table say.
 use Prim.Native.Nat.{ℕ, zero, suc, _+_, _≤_}
-use mathlib.Core.Path.{_≡_, refl, ap, _∙_}
+use mathlib.Core.Path.{_≡_, refl, sym, ap, _∙_}
+use native.Mathlib.Nat.{add-zero}
 use mathlib.Core.Bool.{Bool, true, false}
 use mathlib.Core.List.{List, [], _++_}
 use lib.ListN.{length, take, drop, length-append}
@@ -147,13 +148,13 @@ module _ (src : List ℕ) (s : State) (one two list area : List ℕ) (k : Alike 
 
   given-alike : (n : ℕ) → SameScan s one two (unless n (given src s list area one) s one list area) (unless n (given src s list area two) s two list area)
   given-alike zero =
-      record { answer = refl; list = refl; area = refl; starts = new src s list area; first = refl; second = refl }
-  given-alike (suc n) = record { answer = refl; list = refl; area = refl; starts = []; first = refl; second = refl }
+      record { answer = refl; list = refl; area = refl; starts = new src s list area; table-one = refl; table-two = refl; count = refl }
+  given-alike (suc n) = record { answer = refl; list = refl; area = refl; starts = []; table-one = refl; table-two = refl; count = sym (add-zero (s .lines)) }
 
   alike : (t : Bool) → fits s src two list ≡ t → SameScan s one two (scanOf src s one list area) (scanOf src s two list area)
   alike false e =
       rw (scan-unfit src s one list area (fits-alike ∙ e), scan-unfit src s two list area e)
-      (record { answer = refl; list = refl; area = refl; starts = []; first = refl; second = refl })
+      (record { answer = refl; list = refl; area = refl; starts = []; table-one = refl; table-two = refl; count = sym (add-zero (s .lines)) })
   alike true e =
       rw (scan-given src s list area one (fits-alike ∙ e), scan-given src s list area two e, k .length)
       (given-alike (number src s list area (s .lines + length (new src s list area)) (length two)))

@@ -47,7 +47,7 @@ pub record QuickReady (src : List ℕ) (s : State) (b : Skipped) (x : Lexed) (ta
   pub starts : b .lfs ≡ length (startsFrom src s (b .end - s .place))
   pub tableRoom : s .lines + (b .lfs + x .lfs) ≤ length table
 
--- the token, and the state after it on a line of so many
+-- the token, and the state at the offset where it ends: with so many lines, on this one
 abbrev pub plainToken : State → Skipped → Lexed → ℕ → ℕ → Line → Tried
 plainToken s b x offset lines line =
     record {

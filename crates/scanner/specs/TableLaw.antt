@@ -1,7 +1,7 @@
 -- The law of the line table: what a scan comes to depends on it only through its length, its first
--- start and its last start. A scan need not look at the other starts, since the state carries the
--- line of its offset.
-use Prim.Native.Nat.{ℕ}
+-- start and its last start. So another table can be lent in its place to see what a scan would come
+-- to.
+use Prim.Native.Nat.{ℕ, _+_}
 use mathlib.Core.Path.{_≡_}
 use mathlib.Core.List.{List}
 use lib.ListN.{length, getD}
@@ -22,10 +22,11 @@ pub record SameScan (s : State) (one two : List ℕ) (a b : ScanLeft) : Type 0 w
   pub answer : a .answer ≡ b .answer
   pub list : a .list ≡ b .list
   pub area : a .area ≡ b .area
-  -- the same starts, after those that each table has
+  -- the same starts, after those that each table has; none where the scan is refused
   pub starts : List ℕ
-  pub first : a .table ≡ sets one (s .lines) starts
-  pub second : b .table ≡ sets two (s .lines) starts
+  pub table-one : a .table ≡ sets one (s .lines) starts
+  pub table-two : b .table ≡ sets two (s .lines) starts
+  pub count : a .answer .state .lines ≡ s .lines + length starts
 
 -- of every source, state and buffers
 abbrev pub TableLaw : Type 0

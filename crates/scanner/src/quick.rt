@@ -87,7 +87,8 @@ fn is_quick(state: State, x: Lexed, offset: usize) -> bool
     is_plain(x) & (offset < state.size)
 }
 
-// The token that was read, and the state after it, which ends at an offset on a line of so many.
+// The token that was read, and the state at the offset where it ends: with so many lines, on this
+// one.
 fn given(state: State, blanks: Skipped, x: Lexed, offset: usize, lines: usize, line: Line) -> Tried
     requires { ⌜ PlainReady state blanks x ⌝ }
     ensures { λ r. ⌜ r ≡ plainToken state blanks x offset lines line ⌝ }

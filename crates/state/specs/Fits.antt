@@ -15,13 +15,14 @@ abbrev pub fileOf : State → File
 fileOf s = record { base = s .base; size = s .size; lines = s .lines }
 
 -- "A state whose two numbers are not the line count and the last start is one that does not fit":
--- the line is the line count. Its start is to be the last start, so it is not above the offset
-abbrev pub isLastLine : State → Bool
-isLastLine s = eqb (s .line .number) (s .lines) && leb (s .line .start) (s .offset)
+-- the line is the line count. Its start is to be the last start, so it is not above the offset;
+-- whether it is the last start is for the table to tell
+abbrev pub mayBeLast : State → Bool
+mayBeLast s = eqb (s .line .number) (s .lines) && leb (s .line .start) (s .offset)
 
 -- with one line, its start is to be the first start too, so it is 0
 abbrev pub fitsLine : State → Bool
-fitsLine s = isLastLine s && cond (ltb 1 (s .lines)) true (eqb (s .line .start) 0)
+fitsLine s = mayBeLast s && cond (ltb 1 (s .lines)) true (eqb (s .line .start) 0)
 
 -- "offset above place or size, base + size too large, line count 0", and the line: what the state
 -- alone tells

@@ -1,7 +1,7 @@
 // The state of a scan, which goes from call to call by value.
 use position::Line;
 ghost use mathlib.Core.Path.{_≡_};
-ghost use Rattle.state.specs.Fits.{fileOf, isLastLine, fitsAlone, fitsLines, fits};
+ghost use Rattle.state.specs.Fits.{fileOf, mayBeLast, fitsAlone, fitsLines, fits};
 ghost use Rattle.state.specs.State.{fresh, advance};
 
 pub struct State {
@@ -16,7 +16,7 @@ pub struct State {
     // how many line starts and errors are recorded
     pub lines: usize,
     pub errors: usize,
-    // the line of the offset
+    // the last line, which is the line of the offset if the line starts rise
     pub line: Line,
 }
 
@@ -83,9 +83,9 @@ impl State {
         }
     }
 
-    // Is the line the last one, as far as the state tells?
-    fn is_last_line(self) -> bool
-        ensures { λ r. ⌜ r ≡ isLastLine self ⌝ }
+    // May the line be the last one? The table tells whether it is.
+    fn may_be_last(self) -> bool
+        ensures { λ r. ⌜ r ≡ mayBeLast self ⌝ }
     {
         if self.line.number != self.lines {
             return false;
@@ -109,7 +109,7 @@ impl State {
         if !self.file().in_range() {
             return false;
         }
-        if !self.is_last_line() {
+        if !self.may_be_last() {
             return false;
         }
         if self.lines > 1 {
@@ -132,7 +132,7 @@ impl State {
         if !self.file().fits(table) {
             return false;
         }
-        if !self.is_last_line() {
+        if !self.may_be_last() {
             return false;
         }
         table[self.lines - 1] == self.line.start

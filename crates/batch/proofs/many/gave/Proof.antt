@@ -1,6 +1,5 @@
 -- `many::gave` meets its contract: the line that it reads is the state's.
 use mathlib.Core.Path.{_∙_}
-use native.Mathlib.Omega.{arith}
 use borrow.Author.Needs.{needs}
 use Rattle.batch.proofs.Runs.{state-start}
 use Rattle.batch.proofs.many.gave.Statement.{statement}

@@ -38,11 +38,11 @@ returns-4 c =
       sym (ranged f) ∙ not-true _ (c .if4 .taken),
     )
 
-is-last-line-requires : tie.Need-is-last-line-requires
-is-last-line-requires c κs = search needs
+may-be-last-requires : tie.Need-may-be-last-requires
+may-be-last-requires c κs = search needs
 
 -- ---- after the test of the line
-module _ (c : tie.After-is-last-line) where
+module _ (c : tie.After-may-be-last) where
   abbrev self : State
   self = c .before .before .before .before .before .before .before .before .before .before .args .self
 
@@ -58,18 +58,18 @@ module _ (c : tie.After-is-last-line) where
       )
 
 returns-5 : tie.Need-returns-5
-returns-5 c = sym (left (c .before) ∙ rw (sym (c .before .is-last-line .ensures) ∙ not-true _ (c .if5 .taken)))
+returns-5 c = sym (left (c .before) ∙ rw (sym (c .before .may-be-last .ensures) ∙ not-true _ (c .if5 .taken)))
 
 returns-6 : tie.Need-returns-6
 returns-6 c =
     let e = c .before .before in
-    sym (left (e .before) ∙ rw (sym (e .before .is-last-line .ensures) ∙ not-false _ (e .if5 .left), lt-ltb _ _ (c .if6 .taken)))
+    sym (left (e .before) ∙ rw (sym (e .before .may-be-last .ensures) ∙ not-false _ (e .if5 .left), lt-ltb _ _ (c .if6 .taken)))
 
 returns-7 : tie.Need-returns-7
 returns-7 c =
     let m = c .before in
     let e = m .before .before in
-    sym (left (e .before) ∙ rw (sym (e .before .is-last-line .ensures) ∙ not-false _ (e .if5 .left), le-ltb _ _ (m .if6 .left)))
+    sym (left (e .before) ∙ rw (sym (e .before .may-be-last .ensures) ∙ not-false _ (e .if5 .left), le-ltb _ _ (m .if6 .left)))
 
 pub fits-alone-spec : {M : Type 1} → statement M
 fits-alone-spec =
@@ -81,7 +81,7 @@ fits-alone-spec =
     file-requires
     in-range-requires
     returns-4
-    is-last-line-requires
+    may-be-last-requires
     returns-5
     returns-6
     returns-7)

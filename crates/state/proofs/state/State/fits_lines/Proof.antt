@@ -53,15 +53,15 @@ sized c = c .before .before .before .if2 .left
 fitted : (c : tie.Else3) → let a = start (c .before) .args in fitting (fileOf (a .self)) (a .table .now) ≡ true
 fitted c = sym (fits-file (c .before)) ∙ not-false _ (c .if3 .left)
 
-is-last-line-requires : tie.Need-is-last-line-requires
-is-last-line-requires c κs = search needs
+may-be-last-requires : tie.Need-may-be-last-requires
+may-be-last-requires c κs = search needs
 
 returns-4 : tie.Need-returns-4
 returns-4 c =
     let l = c .before in
     let e = l .before in
     let a = start (e .before) .args in
-    lined-other (a .self) (a .table .now) (placed (e .before)) (sized e) (fitted e) (sym (l .is-last-line .ensures) ∙ not-true _ (c .if4 .taken))
+    lined-other (a .self) (a .table .now) (placed (e .before)) (sized e) (fitted e) (sym (l .may-be-last .ensures) ∙ not-true _ (c .if4 .taken))
 
 sub-result : tie.Need-sub-result
 sub-result c = omega (arith, fit _ _ (fitted (c .before .before .before)))
@@ -78,7 +78,7 @@ returns-5 c =
     let l = n .before in
     let e = l .before in
     let a = start (e .before) .args in
-    lined-last (a .self) (a .table .now) (placed (e .before)) (sized e) (fitted e) (sym (l .is-last-line .ensures) ∙ not-false _ (n .if4 .left))
+    lined-last (a .self) (a .table .now) (placed (e .before)) (sized e) (fitted e) (sym (l .may-be-last .ensures) ∙ not-false _ (n .if4 .left))
 
 pub fits-lines-spec : {M : Type 1} → statement M
 fits-lines-spec =
@@ -89,7 +89,7 @@ fits-lines-spec =
     file-requires
     fits-requires
     returns-3
-    is-last-line-requires
+    may-be-last-requires
     returns-4
     sub-result
     mul-result
