@@ -23,7 +23,7 @@ use Rattle.utf8.specs.Count.{count}
 use Rattle.utf8.proofs.Count.{count-fits}
 use Rattle.lines.specs.Current.{readLine}
 use Rattle.lines.proofs.Kept.{read-last}
-use Rattle.lines.proofs.Current.{lastLine, take-line, read-last-line}
+use Rattle.lines.proofs.Current.{lastLine}
 use Rattle.lexer.specs.Lexeme.{Lexeme, taken}
 use Rattle.lexer.specs.Lex.{lex}
 use Rattle.lexer.specs.Placed.{Placed, placed}
@@ -33,7 +33,7 @@ use Rattle.reading.proofs.Step.{after-from-zero}
 use Rattle.state.specs.declared.state.State.{State}
 use Rattle.state.specs.Fits.{fileOf, fitsLine, fits}
 use Rattle.scanner.specs.Scan.{view, written, tokenStart, toArea, tokenOf, refusalOf, ScanLeft, stateOf, withError, gaveBy, unless, scanBy, scanOf}
-use Rattle.scanner.proofs.Scans.{Held, held}
+use Rattle.scanner.proofs.Scans.{Held, held, held-read}
 
 -- a state whose line is the last
 line-fits : (s : State) → s .line .number ≡ s .lines → s .line .start ≤ s .offset → (s .lines ≡ 1 → s .line .start ≡ 0) → 1 ≤ s .lines → fitsLine s ≡ true
@@ -120,9 +120,7 @@ module _ (src : List ℕ) (s : State) (table list : List ℕ) (k : Held s src ta
       last = read-last (s .size) (s .offset) cs (take (s .lines) table) (rw (last-start (fileOf s) table g) (k .last))
 
       line : readLine (s .size) (s .offset) cs (s .line) ≡ lastLine (v .lines)
-      line =
-          ap (readLine (s .size) (s .offset) cs) (k .line ∙ sym (take-line table (s .lines) (g .some) (g .held)))
-          ∙ read-last-line (s .size) (s .offset) cs (take (s .lines) table)
+      line = held-read s src table list k cs
 
 -- ---- a scan
 -- one that is not refused gave something

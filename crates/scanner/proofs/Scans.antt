@@ -10,6 +10,7 @@ use lib.ListN.{length, take, drop, length-append}
 use lib.Seq.{sets, sets-eq, length-take-le}
 use borrow.Author.Tests.{leb-true}
 use Rattle.basics.proofs.Choice.{and-split}
+use Rattle.utf8.specs.declared.Char.{Char}
 use Rattle.utf8.specs.Chars.{widths}
 use Rattle.position.specs.declared.Line.{Line}
 use Rattle.position.specs.Lines.{lineStart, lineIn}
@@ -65,6 +66,14 @@ held s src table list e =
       place = leb-true _ _ (b .1);
       errors = leb-true _ _ (a .1);
     }
+
+-- after characters are read, its line is the last that is recorded then
+pub held-read : (s : State) (src table list : List ℕ) → Held s src table list → (cs : List Char)
+    → readLine (s .size) (s .offset) cs (s .line) ≡ lastLine (readLines (s .size) (s .offset) cs (take (s .lines) table))
+held-read s src table list k cs =
+    let g = fit (fileOf s) table (k .fitted) in
+    ap (readLine (s .size) (s .offset) cs) (k .line ∙ sym (take-line table (s .lines) (g .some) (g .held)))
+    ∙ read-last-line (s .size) (s .offset) cs (take (s .lines) table)
 
 -- xs after the first n of a buffer
 pub written-behind : {A : Type 0} (buffer : List A) (n : ℕ) (xs : List A) → n + length xs ≤ length buffer → written (take n buffer ++ xs) buffer ≡ sets buffer n xs
@@ -145,11 +154,7 @@ module _ (src : List ℕ) (s : State) (table list area : List ℕ) (k : Held s s
   lines-read = read-new (s .size) (s .offset) (take taken′ (left src s start)) (take (s .lines) table) last-kept
 
   line-read : readLine (s .size) (s .offset) (take taken′ (left src s start)) (s .line) ≡ lastLine (take (s .lines) table ++ new)
-  line-read =
-      let g = fit (fileOf s) table (k .fitted) in
-      ap (readLine (s .size) (s .offset) (take taken′ (left src s start))) (k .line ∙ sym (take-line table (s .lines) (g .some) (g .held)))
-      ∙ read-last-line (s .size) (s .offset) (take taken′ (left src s start)) (take (s .lines) table)
-      ∙ ap lastLine lines-read
+  line-read = held-read s src table list k (take taken′ (left src s start)) ∙ ap lastLine lines-read
 
   token-error : token src s start .error ≡ x .error
   unfolding said placed
