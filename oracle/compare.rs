@@ -14,6 +14,7 @@ mod original;
 mod ours;
 mod questions;
 mod recorded;
+mod zeros;
 
 use differences::{Entry, Reasons, NAMES};
 use listing::{End, Listing};

@@ -5,8 +5,9 @@
 //! a text with a stand-in at that place. The stand-in has as many characters, and the original
 //! reads it as ours must read the text itself. In its answer the stand-ins are then turned back.
 
-use crate::listing::{End, Listing, Row, CHAR, COMMENT, IDENT, ILLEGAL, STRING};
+use crate::listing::{End, Listing, Row, CHAR, COMMENT, FLOAT, IDENT, ILLEGAL, IMAG, INT, STRING};
 use crate::original;
+use crate::zeros::Zero;
 
 macro_rules! entries {
     ($($entry:ident $name:literal,)*) => {
@@ -25,6 +26,8 @@ entries! {
     OverRange "An escape over its range",
     UnknownToken "A character that starts no token",
     TwoDots "Two dots",
+    ZeroDigit "A 0 before a digit, then `.`, e or i",
+    ZeroUnderscore "A 0 before `_`",
     HexByte "A byte given by `\\x` in a string",
     OctalByte "A byte given in octal in a string",
     LetterR "The letter r after a comment",
@@ -73,13 +76,14 @@ struct Asked {
 // The stand-ins: a character that is ILLEGAL in both, a raw string as long as an empty character
 // literal, a blank, and a letter that is not r. A backquote is no escape, so what comes before it
 // ends there as before `'`. A run after a comment holds no other letter than r, so that no keyword
-// can arise.
+// can arise. `Zero` has those for numbers.
 const ODD: char = '#';
 const QUOTE: char = '`';
 const BLANK: char = ' ';
 const LETTER: char = 'q';
 
 // Errors that ours records where the original records none.
+const MISPLACED_UNDERSCORE: usize = 4;
 const NO_CODE_POINT: usize = 12;
 const NOT_ONE_CHARACTER: usize = 13;
 const UNKNOWN_TOKEN: usize = 14;
@@ -102,6 +106,23 @@ impl Asked {
             replaced = true;
         }
         replaced
+    }
+
+    // Puts stand-ins for numbers that start with 0 and a digit or an underscore. It does so once in
+    // each line, because the original may read the rest of such a number as further numbers.
+    fn replace_zeros(&mut self) -> bool {
+        let mut line = 0;
+        for row in &self.theirs.rows {
+            let Some(zero) = Zero::at(&self.source, row.offset) else { continue };
+            let two = &mut self.text[row.offset..row.offset + 2];
+            if row.line == line || *two != self.source[row.offset..row.offset + 2] {
+                continue;
+            }
+            zero.put(two);
+            self.reasons.add(if matches!(zero, Zero::Decimal) { Entry::ZeroDigit } else { Entry::ZeroUnderscore });
+            line = row.line;
+        }
+        line > 0
     }
 
     // Puts a stand-in for the empty character literal at which the original panicked: where ours
@@ -143,7 +164,7 @@ impl Asked {
     fn replace_all(&mut self, ours: &Listing) -> Result<(), String> {
         loop {
             let panicked = self.theirs.end == End::Panic;
-            if !self.replace_letters() {
+            if !self.replace_letters() && !self.replace_zeros() {
                 if !panicked {
                     break;
                 }
@@ -169,12 +190,24 @@ impl Asked {
         stands && matches!(row.kind, ILLEGAL | IDENT | STRING)
     }
 
+    // Adds what ours must give for a number that a stand-in was put for.
+    fn put_zero(&self, zero: Zero, row: Row, out: &mut Listing) {
+        let text = zero.text(self.theirs.text(&row));
+        match zero {
+            Zero::Cut => put_illegal(row, &text, 2, MISPLACED_UNDERSCORE, out),
+            _ => out.push(row, &text, b""),
+        }
+    }
+
     // Adds what ours must give for a token of theirs.
     fn put(&mut self, row: Row, out: &mut Listing) {
+        if let Some(zero) = Zero::at(&self.source, row.offset) {
+            return self.put_zero(zero, row, out);
+        }
         if self.has_stand_in(&row) {
             let text = self.turned_back(&row);
             return match row.kind {
-                STRING => put_illegal(row, &text, NOT_ONE_CHARACTER, out),
+                STRING => put_illegal(row, text.as_bytes(), 2, NOT_ONE_CHARACTER, out),
                 ILLEGAL => self.put_with_error(row, &text, out),
                 _ => out.push(row, text.as_bytes(), b""),
             };
@@ -190,7 +223,8 @@ impl Asked {
         };
         if row.kind == CHAR && body.characters > 1 {
             self.reasons.add(Entry::LongLiteral);
-            put_illegal(row, &String::from_utf8_lossy(text), NOT_ONE_CHARACTER, out);
+            let read = String::from_utf8_lossy(text).chars().count();
+            put_illegal(row, text, read, NOT_ONE_CHARACTER, out);
         } else if row.kind == STRING && (body.hex || body.octal) {
             out.push(row, text, &body.value);
             self.reasons.0 |= u32::from(body.hex) << Entry::HexByte as u32;
@@ -205,7 +239,7 @@ impl Asked {
         match unrecorded(text) {
             Some((number, entry)) => {
                 self.reasons.add(entry);
-                put_illegal(row, text, number, out);
+                put_illegal(row, text.as_bytes(), text.chars().count(), number, out);
             }
             None => out.push(row, text.as_bytes(), b""),
         }
@@ -226,11 +260,11 @@ impl Asked {
     }
 }
 
-// ILLEGAL with an error after it. It holds no line feed, so the line is that of its start.
-fn put_illegal(row: Row, text: &str, number: usize, out: &mut Listing) {
-    let length = text.chars().count();
-    out.push(Row { kind: ILLEGAL, code: 0, ..row }, text.as_bytes(), b"");
-    out.errors.push([row.offset + length, row.line, row.column + length, number]);
+// ILLEGAL of so many characters, with an error after it. It holds no line feed, so the line is that
+// of its start.
+fn put_illegal(row: Row, text: &[u8], read: usize, number: usize, out: &mut Listing) {
+    out.push(Row { kind: ILLEGAL, code: 0, ..row }, text, b"");
+    out.errors.push([row.offset + read, row.line, row.column + read, number]);
 }
 
 // The error that ours must record for an ILLEGAL of the original, where the original records none.
@@ -353,6 +387,7 @@ fn concerns(theirs: &Listing, row: &Row) -> bool {
     let text = theirs.text(row);
     match row.kind {
         ILLEGAL => true,
+        INT | FLOAT | IMAG => text.starts_with(b"0o") || text.starts_with(b"0_"),
         IDENT => !text.is_ascii(),
         COMMENT => text.starts_with(b"/*"),
         CHAR => text.len() > 3,

@@ -98,7 +98,7 @@ fn kind_of(name: &[u8]) -> Kind {
 fn as_ours(kind: Kind, text: &[u8]) -> Vec<u8> {
     match kind {
         Kind::Comment => comment(text),
-        Kind::Int | Kind::Float | Kind::Imag => number(text),
+        Kind::Int | Kind::Float | Kind::Imag => number(kind, text),
         Kind::Illegal | Kind::Ident | Kind::Char | Kind::String => text.to_vec(),
         _ => Vec::new(),
     }
@@ -110,10 +110,11 @@ fn comment(text: &[u8]) -> Vec<u8> {
     text.iter().chain(end).copied().filter(|&byte| byte != b'\r').collect()
 }
 
-/// Prefix and exponent in lower case, an o in old octal numbers.
-fn number(text: &[u8]) -> Vec<u8> {
+/// Prefix and exponent in lower case, an o in old octal numbers: integers with a 0 before a digit or
+/// an underscore.
+fn number(kind: Kind, text: &[u8]) -> Vec<u8> {
     let mut ours = text.to_vec();
-    if is_old_octal(text) {
+    if kind == Kind::Int && matches!(text, [b'0', b'0'..=b'9' | b'_', ..]) {
         ours.insert(1, b'o');
     }
     let prefixed = text.first() == Some(&b'0') && text.get(1).is_some_and(u8::is_ascii_alphabetic);
@@ -123,10 +124,6 @@ fn number(text: &[u8]) -> Vec<u8> {
         }
     }
     ours
-}
-
-fn is_old_octal(text: &[u8]) -> bool {
-    text.len() > 1 && text[0] == b'0' && text[1].is_ascii_digit()
 }
 
 /// All tokens of ours, and how many errors there were.
@@ -153,7 +150,6 @@ const NUMBER_TEXT: &str = "the text of a number: 017 is 0o17, prefix and e in lo
 const TWO_COMMENTS: &str = "a comment before another on the line: where the semicolon stands";
 const TILDE: &str = "~ is ILLEGAL";
 const HEX_FLOAT: &str = "hexadecimal floats";
-const ZERO_FLOAT: &str = "a 0 before a digit is octal even before `.`, e or i";
 const DIGIT: &str = "a digit outside its base before i, where go/scanner has no error";
 const MARK: &str = "a byte order mark is ILLEGAL";
 const DOTS: &str = "two dots are ILLEGAL";
@@ -161,7 +157,6 @@ const HIGH: &str = "a character above 127 outside comments and quotes";
 const BAD: &str = "an error by both";
 const QUIET: &str = "NUL or a byte order mark in comments or quotes, where go/scanner has an error";
 const FORM: &str = "a number ends where its form ends, where go/scanner has an error";
-const ZERO_UNDERSCORE: &str = "a 0 before `_` starts a decimal, where go/scanner has an error";
 const LONG: &str = "longer than 1,048,576 bytes";
 const UTF8: &str = "not UTF-8";
 
@@ -200,9 +195,6 @@ fn number_reason(text: &[u8]) -> Way {
         Some(b'x') if first == b'0' && rest.iter().any(|byte| b".pP".contains(byte)) => Way::On(HEX_FLOAT),
         Some(b'b') if first == b'0' && outside(b'1') => Way::Stop(DIGIT),
         Some(b'o') if first == b'0' && outside(b'7') => Way::Stop(DIGIT),
-        // ours has `.` as its last token, which does not set the mark
-        _ if is_old_octal(text) && text.ends_with(b".") => Way::Stop(ZERO_FLOAT),
-        _ if is_old_octal(text) => Way::On(ZERO_FLOAT),
         _ => Way::Unexplained,
     }
 }
@@ -243,7 +235,7 @@ impl Found {
             self.stopped.remove(BAD);
             self.stopped.insert(reason?, count);
         }
-        let narrow = [HEX_FLOAT, ZERO_FLOAT, TILDE, MARK].iter().any(|reason| self.passed.contains_key(reason));
+        let narrow = [HEX_FLOAT, TILDE, MARK].iter().any(|reason| self.passed.contains_key(reason));
         let explained = errors == 0 || narrow || !self.stopped.is_empty();
         explained.then_some(self)
     }
@@ -349,7 +341,7 @@ fn lenient(source: &[u8], bad: &Theirs) -> Option<&'static str> {
     if has(b"\0") || has("\u{feff}".as_bytes()) {
         Some(QUIET)
     } else if matches!(bad.lexeme.kind, Kind::Int | Kind::Float | Kind::Imag) {
-        Some(if bad.text.starts_with(b"0_") { ZERO_UNDERSCORE } else { FORM })
+        Some(FORM)
     } else {
         None
     }

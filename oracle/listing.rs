@@ -6,6 +6,9 @@ pub const ILLEGAL: u8 = 1;
 pub const EOF: u8 = 2;
 pub const COMMENT: u8 = 3;
 pub const IDENT: u8 = 4;
+pub const INT: u8 = 5;
+pub const FLOAT: u8 = 6;
+pub const IMAG: u8 = 7;
 pub const CHAR: u8 = 8;
 pub const STRING: u8 = 9;
 

@@ -21,7 +21,7 @@ use Rattle.numbers.specs.declared.Spelling.the-variants.{AsRead}
 use Rattle.numbers.specs.Run.{Run, longerRun, digitRun}
 use Rattle.numbers.specs.Number.{decimal, bareZero, zeroBy, withoutI, number, numberAt}
 use Rattle.numbers.proofs.Runs.{run-end, run-digit, run-other}
-use Rattle.numbers.proofs.Numerals.{finish-end, rest-plain, decimal-good, bare-decimal, zero-is, without-zero, without-other}
+use Rattle.numbers.proofs.Numerals.{finish-end, rest-plain, decimal-good, octal-is, bare-decimal, zero-is, without-zero, without-other}
 use Rattle.numbers.proofs.Placed.{number-other}
 
 -- the number of a decimal digit, and of any other byte
@@ -89,7 +89,7 @@ module _ (s : List ℕ) (at end : ℕ) (some : at < end) (all : (p : ℕ) → at
     zero-alone : numberAt at (withoutI (chars (drop at s))) ≡ Integer
     zero-alone =
         without-zero s at z ∙ ap (numberAt at) (zero-is s at z ∙ ap (λ p. zeroBy (getD s p 0) (chars (drop at s))) e ∙ bare-is)
-        ∙ bare-decimal s at z (rw e no-digit) ∙ decimal-is
+        ∙ bare-decimal s at z (octal-is s at z ∙ rw (e, no-digit, ne-eqb _ _ (none-of (code "_") refl))) ∙ decimal-is
 
   module _ (alone : getD s at 0 ≡ code "0" → at + 1 ≡ end) where
     without-is : numberAt at (withoutI (chars (drop at s))) ≡ Integer

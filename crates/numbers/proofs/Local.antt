@@ -1,8 +1,8 @@
 -- A number in a text that ends in a line feed does not read that line feed, and is the same with more text after it.
 use Prim.Native.Nat.{ℕ, suc, _+_, _≤_, _<_}
 use Prim.Native.Char.{code}
-use mathlib.Core.Path.{_≡_, refl, ap}
-use mathlib.Core.Bool.{Bool, true, false, cond, _&&_, _||_}
+use mathlib.Core.Path.{_≡_, refl, ap, ap₂, _∙_}
+use mathlib.Core.Bool.{Bool, true, false, cond, not, _&&_, _||_}
 use mathlib.Core.List.{List, [], _∷_, _++_}
 use mathlib.Core.Logic.{⊎-elim}
 use native.Mathlib.Omega.{arith}
@@ -19,9 +19,9 @@ use Rattle.errors.specs.Numbers.{BAD-BINARY, BAD-OCTAL, BAD-HEXADECIMAL, MISPLA
 use Rattle.digits.specs.Digit.{digitVal, isDecimal}
 use Rattle.numbers.specs.declared.Spelling.{Spelling}
 use Rattle.numbers.specs.declared.Spelling.the-variants.{AsRead, LowerPrefix, OctalPrefix, LowerExponent}
-use Rattle.numbers.specs.Run.{Run, endOfRun, longerRun, digitRun, strictRun}
-use Rattle.numbers.proofs.Runs.{digit-from}
-use Rattle.numbers.specs.Number.{Numeral, afterChars, illegal, good, exponentDigits, exponent, finish, fraction, decimalRest, decimal, prefixed, bareZero, leadingZero, withoutI, number}
+use Rattle.numbers.specs.Run.{Run, endOfRun, longerRun, digitRun, strictRun, inRun, longestRun}
+use Rattle.numbers.proofs.Runs.{digit-from, in-run-plain}
+use Rattle.numbers.specs.Number.{Numeral, afterChars, illegal, good, exponentDigits, exponent, finish, fraction, decimalRest, decimal, prefixed, makesDecimal, isBareOctal, bareZero, leadingZero, withoutI, number}
 
 -- ---- runs of digits
 RunLocal : (List Char → Run) → List Char → List Char → Type 0
@@ -56,6 +56,16 @@ strict-local base b (c ∷ r) t h = go (eqb (c .code) (code "_")) (unfold RunLoc
         × (cond x (endOfRun true) (digitRun base false (c ∷ r)) .len < suc (length r))
     go true q = (refl, omega arith)
     go false q = q
+
+longest-local : (r t : List Char) → Ends r → (longestRun (r ++ t) ≡ longestRun r) × (longestRun r < length r)
+unfolding longestRun
+longest-local [] t h = absurd h
+longest-local (c ∷ r) t h = go (inRun (c .code)) refl (longest-local r t)
+  where
+    go : (x : Bool) → inRun (c .code) ≡ x → (Ends r → (longestRun (r ++ t) ≡ longestRun r) × (longestRun r < length r))
+        → (cond x (suc (longestRun (r ++ t))) 0 ≡ cond x (suc (longestRun r)) 0) × (cond x (suc (longestRun r)) 0 < suc (length r))
+    go true e ih = let q = ih (ends-tail c r h (in-run-plain (c .code) e .2)) in (ap suc (q .0), omega (arith, q .1))
+    go false e ih = (refl, omega arith)
 
 -- ---- readings
 abbrev Local : (List Char → Numeral) → List Char → List Char → Type 0
@@ -142,10 +152,15 @@ prefixed-local base error sp b r t h =
 
 -- ---- after a 0, which is not the last character
 module _ (r t : List Char) (h : Ends r) (k : 1 < length r) where
+  octal-same : isBareOctal (r ++ t) ≡ isBareOctal r
+  octal-same =
+      let q = longest-local r t h in
+      ap₂ (λ x y. inRun x && not (makesDecimal y)) (peek-append 1 r t k) (ap (λ n. peek (drop n (r ++ t))) (q .0) ∙ peek-append (longestRun r) r t (q .1))
+
   bare-local : Local bareZero r t
   unfolding bareZero
   bare-local =
-      by-test r t _ _ _ _ _ _ (ap isDecimal (peek-append 1 r t k)) (λ _. on 1 (prefixed 8 BAD-OCTAL OctalPrefix) (prefixed-local 8 BAD-OCTAL OctalPrefix (lit≤ tt)) r t h k)
+      by-test r t _ _ _ _ _ _ octal-same (λ _. on 1 (prefixed 8 BAD-OCTAL OctalPrefix) (prefixed-local 8 BAD-OCTAL OctalPrefix (lit≤ tt)) r t h k)
       (λ _. decimal-local r t h)
 
   letter-test : (x : ℕ) → eqb (peek (drop 1 (r ++ t))) x ≡ eqb (peek (drop 1 r)) x

@@ -1,8 +1,8 @@
 -- Laws of numbers at a place of a text: each rule by the byte there and the run that was read.
 use Prim.Native.Nat.{ℕ, zero, suc, _+_, _≤_, _<_}
 use Prim.Native.Char.{code}
-use mathlib.Core.Path.{_≡_, refl, sym, ap, _∙_}
-use mathlib.Core.Bool.{Bool, true, false, _&&_, _||_}
+use mathlib.Core.Path.{_≡_, refl, sym, ap, ap₂, _∙_}
+use mathlib.Core.Bool.{Bool, true, false, not, _&&_, _||_}
 use mathlib.Core.List.{List}
 use mathlib.Core.Logic.{⊎-elim}
 use native.Mathlib.Omega.{arith}
@@ -19,9 +19,9 @@ use Rattle.errors.specs.Numbers.{BAD-OCTAL, MISPLACED-UNDERSCORE, BAD-EXPONENT}
 use Rattle.digits.specs.Digit.{isDecimal}
 use Rattle.numbers.specs.declared.Spelling.{Spelling}
 use Rattle.numbers.specs.declared.Spelling.the-variants.{AsRead, OctalPrefix, LowerExponent}
-use Rattle.numbers.specs.Run.{Run, digitRun, strictRun}
-use Rattle.numbers.specs.Number.{Numeral, afterChars, exponentDigits, exponent, finish, fraction, decimalRest, decimal, prefixedDigits, prefixed, bareZero, zeroBy, leadingZero, withoutI, numberAt}
-use Rattle.numbers.proofs.Runs.{run-place, strict-place, next-place}
+use Rattle.numbers.specs.Run.{Run, digitRun, strictRun, inRun, longestRun}
+use Rattle.numbers.specs.Number.{Numeral, afterChars, exponentDigits, exponent, finish, fraction, decimalRest, decimal, prefixedDigits, prefixed, makesDecimal, isBareOctal, bareZero, zeroBy, leadingZero, withoutI, numberAt}
+use Rattle.numbers.proofs.Runs.{run-place, strict-place, next-place, run-next, longest-place}
 
 -- n characters on
 at-after : (at n : ℕ) (x : Numeral) → numberAt at (afterChars n x) ≡ numberAt (at + n) x
@@ -29,6 +29,19 @@ at-after at n x = rw (← add-assoc at n (x .len))
 
 pub digit-next : (s : List ℕ) (p : ℕ) → isDecimal (peek (chars (drop p s))) ≡ isDecimal (getD s p 0)
 digit-next s p = test-next s p isDecimal (λ c h. above-it (code "0") c (code "9") (omega arith) (omega arith))
+
+-- ---- what makes a number decimal
+mark-high : (c : ℕ) → 0x80 ≤ c → makesDecimal c ≡ false
+mark-high c h =
+    rw (
+      ne-eqb c (code ".") (λ e. omega arith),
+      ne-eqb c (code "e") (λ e. omega arith),
+      ne-eqb c (code "E") (λ e. omega arith),
+      ne-eqb c (code "i") (λ e. omega arith),
+    )
+
+mark-next : (s : List ℕ) (p : ℕ) → makesDecimal (peek (chars (drop p s))) ≡ makesDecimal (getD s p 0)
+mark-next s p = test-next s p makesDecimal mark-high
 
 -- ---- the digits of an exponent
 module _ (at : ℕ) (s : Spelling) (d : Run) where
@@ -149,13 +162,19 @@ module _ (s : List ℕ) (at : ℕ) where
     first-place : drop 1 (chars (drop at s)) ≡ chars (drop (at + 1) s)
     first-place = next-place s at (code "0") zero (lit< tt) (lit< tt)
 
-    pub bare-octal : isDecimal (getD s (at + 1) 0) ≡ true → numberAt at (bareZero (chars (drop at s))) ≡ numberAt (at + 1) (prefixed 8 BAD-OCTAL OctalPrefix (chars (drop (at + 1) s)))
-    unfolding bareZero
-    bare-octal e = rw (first-place, digit-next s (at + 1), e) (at-after at 1 _)
+    -- what follows the 0, and what follows the run
+    pub octal-is : isBareOctal (chars (drop at s)) ≡ inRun (getD s (at + 1) 0) && not (makesDecimal (getD s (at + longestRun (chars (drop at s))) 0))
+    octal-is =
+        ap₂ (λ x y. x && not y) (ap (λ r. inRun (peek r)) first-place ∙ run-next s (at + 1))
+        (ap (λ r. makesDecimal (peek r)) (longest-place s at) ∙ mark-next s (at + longestRun (chars (drop at s))))
 
-    pub bare-decimal : isDecimal (getD s (at + 1) 0) ≡ false → numberAt at (bareZero (chars (drop at s))) ≡ numberAt at (decimal (chars (drop at s)))
+    pub bare-octal : isBareOctal (chars (drop at s)) ≡ true → numberAt at (bareZero (chars (drop at s))) ≡ numberAt (at + 1) (prefixed 8 BAD-OCTAL OctalPrefix (chars (drop (at + 1) s)))
     unfolding bareZero
-    bare-decimal e = rw (first-place, digit-next s (at + 1), e)
+    bare-octal e = rw (e, first-place) (at-after at 1 _)
+
+    pub bare-decimal : isBareOctal (chars (drop at s)) ≡ false → numberAt at (bareZero (chars (drop at s))) ≡ numberAt at (decimal (chars (drop at s)))
+    unfolding bareZero
+    bare-decimal e = rw e
 
     -- the byte after it decides
     pub zero-is : leadingZero (chars (drop at s)) ≡ zeroBy (getD s (at + 1) 0) (chars (drop at s))

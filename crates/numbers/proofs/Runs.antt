@@ -4,23 +4,23 @@ use Prim.Native.Char.{code}
 use mathlib.Core.Path.{_≡_}
 use mathlib.Core.Bool.{Bool, true, false}
 use mathlib.Core.List.{List, [], _∷_}
-use mathlib.Core.Logic.{_≢_}
+use mathlib.Core.Logic.{_≢_, ⊎-elim}
 use native.Mathlib.Omega.{arith}
 use native.Mathlib.Nat.{add-zero}
 use native.Mathlib.Decide.{decLt}
 use lib.Dec.{ltb, eqb, eqb→eq, lit<}
 use lib.ListN.{length, getD, drop}
 use borrow.Author.Tests.{ltb-true, lt-ltb, le-ltb, eqb-true, eq-eqb, ne-eqb}
-use Rattle.basics.proofs.Choice.{cond-ind}
+use Rattle.basics.proofs.Choice.{cond-ind, either, between-true, above-it}
 use Rattle.basics.proofs.Every.{every-below}
 use Rattle.basics.proofs.Lists.{reach}
 use Rattle.utf8.specs.declared.Char.{Char}
-use Rattle.utf8.specs.Chars.{ended, chars}
+use Rattle.utf8.specs.Chars.{ended, chars, peek}
 use Rattle.utf8.proofs.First.{chars-at, chars-end, chars-ascii}
-use Rattle.utf8.proofs.Places.{code-there, ascii-place}
-use Rattle.digits.specs.Digit.{digitVal}
+use Rattle.utf8.proofs.Places.{code-there, test-there, test-next, ascii-place}
+use Rattle.digits.specs.Digit.{digitVal, isDecimal}
 use Rattle.digits.proofs.Digits.{digit-low, digit-there}
-use Rattle.numbers.specs.Run.{Run, endOfRun, longerRun, digitRun, strictRun}
+use Rattle.numbers.specs.Run.{Run, endOfRun, longerRun, digitRun, strictRun, inRun, longestRun}
 use Rattle.numbers.specs.Steps.{digitsAt}
 
 -- one character on from a place
@@ -143,3 +143,38 @@ module _ (base : ℕ) (b : base ≤ 16) (s : List ℕ) (p : ℕ) where
 -- one ASCII character on from a place
 pub next-place : (s : List ℕ) (p x : ℕ) → getD s p 0 ≡ x → 0 < x → x < 0x80 → drop 1 (chars (drop p s)) ≡ chars (drop (p + 1) s)
 next-place s p x e l h = let z = reach s p (omega arith) in rw (chars-ascii s p z (omega arith))
+
+-- ---- the longest run of digits and underscores
+run-high : (c : ℕ) → 0x80 ≤ c → inRun c ≡ false
+run-high c h = rw (above-it (code "0") c (code "9") (omega arith) (omega arith), ne-eqb c (code "_") (λ e. omega arith))
+
+pub run-next : (s : List ℕ) (p : ℕ) → inRun (peek (chars (drop p s))) ≡ inRun (getD s p 0)
+run-next s p = test-next s p inRun run-high
+
+pub in-run-plain : (c : ℕ) → inRun c ≡ true → (0 < c) × (c < 0x80) × (c ≢ code "\n")
+in-run-plain c t =
+    ⊎-elim (λ (d : isDecimal c ≡ true). let z = between-true (code "0") c (code "9") d in (omega arith, omega arith, λ e. omega arith))
+    (λ (d : isDecimal c ≡ false). let z = eqb-true c (code "_") (rw d at t) in (omega arith, omega arith, λ e. omega arith)) (either (isDecimal c))
+
+module _ (s : List ℕ) (p : ℕ) where
+  pub longest-more : inRun (getD s p 0) ≡ true → longestRun (chars (drop p s)) ≡ suc (longestRun (chars (drop (p + 1) s)))
+  unfolding longestRun
+  longest-more e = let q = in-run-plain (getD s p 0) e in rw (chars-ascii s p (reach s p (q .0)) (q .1), e)
+
+  pub longest-stop : inRun (getD s p 0) ≡ false → longestRun (chars (drop p s)) ≡ 0
+  unfolding longestRun
+  longest-stop e =
+      elim (decLt p (length s)) [
+        | yes h ↦ rw (chars-at s p h, test-there s p inRun run-high h, e)
+        | no h ↦ rw (chars-end s p (omega arith))
+      ]
+
+longest-plain : (r : List Char) → Plain (longestRun r) r
+unfolding longestRun
+longest-plain [] = plain-none []
+longest-plain (c ∷ r) =
+    cond-ind (λ n. Plain n (c ∷ r)) (inRun (c .code)) _ _
+    (λ e. let q = in-run-plain (c .code) e in plain-more (longestRun r) c r (q .0) (q .1) (q .2) (longest-plain r)) (λ _. plain-none (c ∷ r))
+
+pub longest-place : (s : List ℕ) (p : ℕ) → drop (longestRun (chars (drop p s))) (chars (drop p s)) ≡ chars (drop (p + longestRun (chars (drop p s))) s)
+longest-place s p = plain-place _ s p (longest-plain (chars (drop p s)))

@@ -23,7 +23,7 @@ use Rattle.digits.specs.Digit.{digitVal, isDecimal}
 use Rattle.numbers.specs.declared.Spelling.{Spelling}
 use Rattle.numbers.specs.declared.Spelling.the-variants.{AsRead, LowerPrefix, OctalPrefix, LowerExponent}
 use Rattle.numbers.specs.Run.{digitRun, strictRun}
-use Rattle.numbers.specs.Number.{Numeral, afterChars, exponentDigits, exponent, finish, fraction, decimalRest, decimal, prefixed, bareZero, leadingZero, withoutI, number}
+use Rattle.numbers.specs.Number.{Numeral, afterChars, exponentDigits, exponent, finish, fraction, decimalRest, decimal, prefixed, isBareOctal, bareZero, leadingZero, withoutI, number}
 use Rattle.numbers.proofs.Runs.{Plain, plain-none, plain-more, plain-within, run-plain, strict-plain}
 
 -- the kinds that a number may have
@@ -185,7 +185,7 @@ module _ (r : List Char) where
       bare-read : Read (bareZero r)
       unfolding bareZero
       bare-read =
-          cond-ind Read (isDecimal (peek (drop 1 r))) _ _
+          cond-ind Read (isBareOctal r) _ _
           (λ _. prefixed-read 8 BAD-OCTAL OctalPrefix tt (lit≤ tt) 1 (record { plain = first; spelled = lit≤ tt; some = λ _. lit< tt })) (λ _. decimal-read)
 
       letter-read : (x base error : ℕ) (sp : Spelling) → T (agrees ILLEGAL error) → 0 < x → x < 0x80 → x ≢ code "\n" → base ≤ 16 → (getD r 1 ended .code ≡ x → Spelled sp r 2) → eqb (peek (drop 1 r)) x ≡ true

@@ -2,7 +2,7 @@
 -- differs from what was read.
 use Prim.Native.Nat.{ℕ, _+_}
 use Prim.Native.Char.{code}
-use mathlib.Core.Bool.{false, cond, _&&_, _||_}
+use mathlib.Core.Bool.{Bool, false, cond, not, _&&_, _||_}
 use mathlib.Core.List.{List}
 use lib.Dec.{leb, eqb}
 use lib.ListN.{drop}
@@ -14,7 +14,7 @@ use Rattle.digits.specs.Digit.{isDecimal}
 use Rattle.numbers.specs.declared.Number.{Number}
 use Rattle.numbers.specs.declared.Spelling.{Spelling}
 use Rattle.numbers.specs.declared.Spelling.the-variants.{AsRead, LowerPrefix, OctalPrefix, LowerExponent}
-use Rattle.numbers.specs.Run.{Run, digitRun, strictRun}
+use Rattle.numbers.specs.Run.{Run, digitRun, strictRun, inRun, longestRun}
 
 pub record Numeral : Type 0 where
   pub kind : ℕ
@@ -77,9 +77,18 @@ prefixedDigits base error s d next =
 unfoldable pub prefixed : ℕ → ℕ → Spelling → List Char → Numeral
 prefixed base error s r = prefixedDigits base error s (digitRun base false r) (peek (drop (digitRun base false r .len) r))
 
--- a 0 without a prefix: "A 0 followed by a digit is octal"; any other starts a decimal
+-- what a decimal number goes on with after its first digits
+abbrev pub makesDecimal : ℕ → Bool
+makesDecimal c = eqb c (code ".") || eqb c (code "e") || eqb c (code "E") || eqb c (code "i")
+
+-- "After a 0 followed by a digit or underscore, take the longest run of digits and underscores.
+-- Before `.`, e, E or i it is decimal .. Otherwise the bare octal rules apply"
+abbrev pub isBareOctal : List Char → Bool
+isBareOctal r = inRun (peek (drop 1 r)) && not (makesDecimal (peek (drop (longestRun r) r)))
+
+-- a 0 without a prefix: octal digits follow it, or it is the first digit of a decimal number
 unfoldable pub bareZero : List Char → Numeral
-bareZero r = cond (isDecimal (peek (drop 1 r))) (afterChars 1 (prefixed 8 BAD-OCTAL OctalPrefix (drop 1 r))) (decimal r)
+bareZero r = cond (isBareOctal r) (afterChars 1 (prefixed 8 BAD-OCTAL OctalPrefix (drop 1 r))) (decimal r)
 
 -- a number that starts with 0, by the character b after it
 abbrev pub zeroBy : ℕ → List Char → Numeral

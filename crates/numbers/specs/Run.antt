@@ -2,11 +2,11 @@
 -- last."
 use Prim.Native.Nat.{ℕ, suc}
 use Prim.Native.Char.{code}
-use mathlib.Core.Bool.{Bool, true, false, cond}
+use mathlib.Core.Bool.{Bool, true, false, cond, _||_}
 use mathlib.Core.List.{List, [], _∷_}
 use lib.Dec.{ltb, eqb}
 use Rattle.utf8.specs.declared.Char.{Char}
-use Rattle.digits.specs.Digit.{digitVal}
+use Rattle.digits.specs.Digit.{digitVal, isDecimal}
 
 -- how many characters a run has, and whether an underscore is misplaced where it stopped
 pub record Run : Type 0 where
@@ -33,3 +33,12 @@ digitRun base under (c ∷ r) =
 unfoldable pub strictRun : ℕ → List Char → Run
 strictRun base [] = endOfRun false
 strictRun base (c ∷ r) = cond (eqb (c .code) (code "_")) (endOfRun true) (digitRun base false (c ∷ r))
+
+-- a digit or an underscore
+abbrev pub inRun : ℕ → Bool
+inRun c = isDecimal c || eqb c (code "_")
+
+-- "the longest run of digits and underscores", in whatever order: how many characters it has
+unfoldable pub longestRun : List Char → ℕ
+longestRun [] = 0
+longestRun (c ∷ r) = cond (inRun (c .code)) (suc (longestRun r)) 0

@@ -8,7 +8,7 @@ ghost use mathlib.Core.Bool.{_&&_};
 ghost use lib.Dec.{leb};
 ghost use Rattle.utf8.specs.Chars.{chars, peek};
 ghost use Rattle.digits.specs.Digit.{isDecimal};
-ghost use Rattle.numbers.specs.Number.{numberAt, exponentDigits, exponent, finish, fraction, decimalRest, decimal, prefixed, bareZero, leadingZero, withoutI, number};
+ghost use Rattle.numbers.specs.Number.{numberAt, exponentDigits, exponent, finish, fraction, decimalRest, decimal, prefixed, makesDecimal, isBareOctal, bareZero, leadingZero, withoutI, number};
 ghost use Rattle.numbers.specs.Run.{strictRun};
 ghost use Rattle.numbers.specs.Steps.{ZeroAt};
 ghost use Rattle.kinds.specs.Kinds.{ILLEGAL};
@@ -154,12 +154,32 @@ fn scan_prefixed(src: &[u8], at: usize, base: u8, error: u8, spelling: Spelling)
     good(kinds::INT, end, spelling)
 }
 
-// A 0 without a prefix: octal before a digit, else decimal.
+// Does a decimal number go on with this byte after its first digits?
+fn makes_decimal(b: u8) -> bool
+    ensures { λ r. ⌜ r ≡ makesDecimal b ⌝ }
+{
+    (b == b'.') | (b == b'e') | (b == b'E') | (b == b'i')
+}
+
+// Does a 0 without a prefix start an octal number? It does before a digit or an underscore, unless
+// what follows the run of these makes the number decimal.
+fn is_bare_octal(src: &[u8], at: usize) -> bool
+    requires { ⌜ ZeroAt (now src) at ⌝ }
+    ensures { λ r. ⌜ r ≡ isBareOctal (chars (drop at (now (src .entry)))) ⌝ }
+{
+    if run::in_run(utf8::byte(src, at + 1)) {
+        let end = run::longest_end(src, at);
+        return !makes_decimal(utf8::byte(src, end));
+    }
+    false
+}
+
+// A 0 without a prefix.
 fn scan_bare_zero(src: &[u8], at: usize) -> Number
     requires { ⌜ ZeroAt (now src) at ⌝ }
     ensures { λ r. ⌜ r ≡ numberAt at (bareZero (chars (drop at (now (src .entry))))) ⌝ }
 {
-    if digits::is_decimal(utf8::byte(src, at + 1)) {
+    if is_bare_octal(src, at) {
         return scan_prefixed(src, at + 1, 8, errors::BAD_OCTAL, Spelling::OctalPrefix);
     }
     scan_decimal(src, at)

@@ -1,10 +1,10 @@
 // Runs of digits with underscores between.
 ghost use mathlib.Core.Path.{_≡_};
 ghost use mathlib.Core.Bool.{false};
-ghost use Prim.Native.Nat.{_≤_};
+ghost use Prim.Native.Nat.{_+_, _≤_};
 ghost use lib.ListN.{drop};
 ghost use Rattle.utf8.specs.Chars.{chars};
-ghost use Rattle.numbers.specs.Run.{digitRun, strictRun};
+ghost use Rattle.numbers.specs.Run.{digitRun, strictRun, inRun, longestRun};
 ghost use Rattle.numbers.specs.Steps.{digitsAt};
 
 // A run of digits and underscores: the place after it, and whether an underscore is misplaced where
@@ -61,4 +61,22 @@ pub(crate) fn scan_strict_digits(src: &[u8], at: usize, base: u8) -> Digits
         };
     }
     scan_digits(src, at, base)
+}
+
+// Is a byte a digit or an underscore?
+pub(crate) fn in_run(b: u8) -> bool
+    ensures { λ r. ⌜ r ≡ inRun b ⌝ }
+{
+    digits::is_decimal(b) | (b == b'_')
+}
+
+// The place after the longest run of digits and underscores, in whatever order.
+pub(crate) fn longest_end(src: &[u8], at: usize) -> usize
+    ensures { λ r. ⌜ r ≡ at + longestRun (chars (drop at (now (src .entry)))) ⌝ }
+{
+    let mut p = at;
+    while in_run(utf8::byte(src, p)) {
+        p += 1;
+    }
+    p
 }
