@@ -33,7 +33,7 @@ const fn lines(name: &'static str, pass: Pass) -> Shape {
     Shape { pass, ..shape(name, "", "x\n", "") }
 }
 
-const SHAPES: [Shape; 15] = [
+const SHAPES: [Shape; 18] = [
     shape("one long line: `x + x + ..`", "", "x + ", "x"),
     shape("one word", "", "lane", ""),
     shape("LFs alone", "", "\n", ""),
@@ -43,6 +43,9 @@ const SHAPES: [Shape; 15] = [
     shape("a raw string of CRs", "`", "\r", "`"),
     shape("a raw string with CR LF", "`", "quota\r\n", "`"),
     shape("a string of escapes", "\"", "\\n", "\""),
+    shape("octal numbers: `0644 0644 ..`", "", "0644 ", ""),
+    shape("one octal number: `0777..`", "0", "7", ""),
+    shape("one decimal number: `0777...5`", "0", "7", ".5"),
     shape("errors on one line: `08 08 ..`", "", "08 ", ""),
     shape("an error on each line of 16 bytes", "", "quota[x] = 08 +\n", ""),
     shape("an error on each line of 2 bytes: `#` LF", "", "#\n", ""),

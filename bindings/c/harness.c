@@ -437,9 +437,9 @@ static void call_part(struct world *w, size_t at)
 static void write_source(struct lent *src)
 {
     static const char *const pieces[] = {
-        "x", "017", "0X1F", "08", "1__0", "1E3", "'a'", "''", "'ab'", "\"a\\n\"", "\"\\400\"", "\"\\k", "`a\r\n`", "`",
-        "// c\r\n", "/* c */", "/*\n*/", "/*", "..", "...", "<<=", "return", ")", "\n", "\r\n", " ", "\t", "~",
-        "\xc3\xa9", "\xf0\x9f\xa7\xac", "\xff", "\xed\xa0\x80"};
+        "x", "017", "07.5", "0_600", "0X1F", "08", "1__0", "1E3", "'a'", "''", "'ab'", "\"a\\n\"", "\"\\400\"",
+        "\"\\k", "`a\r\n`", "`", "// c\r\n", "/* c */", "/*\n*/", "/*", "..", "...", "<<=", "return", ")", "\n", "\r\n",
+        " ", "\t", "~", "\xc3\xa9", "\xf0\x9f\xa7\xac", "\xff", "\xed\xa0\x80"};
     enum { NOT_UTF8 = 2 };
     size_t at = 0, wild = below(6) == 0, count = sizeof pieces / sizeof *pieces - (wild ? 0 : NOT_UTF8);
     while (at < src->bytes) {

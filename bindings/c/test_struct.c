@@ -159,8 +159,8 @@ static void compare(const char *text, size_t often)
 
 static const char *const pieces[] = {
     "x", "lane", "quota_1", "if", "return", "break", "fallthrough", "range", "+", "&^=", "...",
-    "..", ".", ";", "(", ")", "{", "}", "++", "1", "017", "08", "0X1F", "0b2", "1__0", "1E5",
-    "1e", "3.5i", "'x'", "''", "'ab'", "'\\n'", "'\xc3\xa9'", "'", "\"a\"", "\"a\\n\"",
+    "..", ".", ";", "(", ")", "{", "}", "++", "1", "017", "0_7", "072.4", "08", "0X1F", "0b2",
+    "1__0", "1E5", "1e", "3.5i", "'x'", "''", "'ab'", "'\\n'", "'\xc3\xa9'", "'", "\"a\"", "\"a\\n\"",
     "\"\\400\"", "\"\\q", "\"\xe2\x82\xac\\x41\"", "\"", "`raw`", "`a\r\nb`", "`", "// c\n",
     "// c\r\n", "//\xc3\xa9\r", "/* c */", "/* a\r\n\xf0\x9f\xa7\xac */", "/*", "*\r/", "\n",
     "\n\n", "\r\n", " ", "\t", " \n ", "\xc3\xa9", "\xf0\x9f\xa7\xac", "#", "\\", "\x7f",
@@ -248,7 +248,7 @@ static void test_growth(void)
     check(s.list_len == 512 && scanner_errors(&s) == 100, "the list has grown four times");
     scanner_free(&s);
     free(text);
-    text = repeat("08e\"\n", 200, &len);
+    text = repeat("08_\"\n", 200, &len);
     compare(text, 0);
     read_all(&s, text, len);
     check(scanner_errors(&s) == 600, "three errors for each five bytes");

@@ -14,7 +14,7 @@ use Rattle.words.specs.Word.{isLetter, isWord, wordLen}
 use Rattle.blanks.specs.Blank.{isSpace, isBlank, skip}
 use Rattle.operators.specs.Longest.{begins, longest}
 use Rattle.numbers.specs.declared.Spelling.the-variants.{LowerPrefix, OctalPrefix}
-use Rattle.numbers.specs.Run.{digitRun, strictRun, longestRun}
+use Rattle.numbers.specs.Run.{digitRun, strictRun, runLen}
 use Rattle.numbers.specs.Number.{finish, fraction, decimalRest, decimal, prefixed, bareZero, leadingZero, withoutI, number}
 use Rattle.numbers.specs.Spelling.{numberText}
 use Rattle.escapes.specs.EscapeDigits.{escapeDigits}
@@ -58,7 +58,7 @@ unfolding charsFrom firstChar octets encode skip isBlank isSpace isLetter begins
 define = refl
 
 octal : first false "08" ≡ shown ILLEGAL 1 (spelled "0o") BAD-OCTAL true
-unfolding charsFrom firstChar octets encode skip isBlank isSpace isLetter digitVal digitRun strictRun decimal prefixed longestRun bareZero leadingZero withoutI number numberText lexNumber lexBy lexToken lex
+unfolding charsFrom firstChar octets encode skip isBlank isSpace isLetter digitVal digitRun strictRun decimal prefixed runLen bareZero leadingZero withoutI number numberText lexNumber lexBy lexToken lex
 octal = refl
 
 -- a 0 before a digit or an underscore: what follows the run decides
@@ -66,11 +66,11 @@ leading-zero
     : (first false "072.40" ≡ shown FLOAT 6 (spelled "072.40") 0 true) × (first false "0123i" ≡ shown IMAG 5 (spelled "0123i") 0 true)
     × (first false "0_600" ≡ shown INT 5 (spelled "0o_600") 0 true) × (first false "0_8" ≡ shown ILLEGAL 2 (spelled "0o_") MISPLACED-UNDERSCORE true)
     × (first false "0__7.5" ≡ shown ILLEGAL 2 (spelled "0_") MISPLACED-UNDERSCORE true)
-unfolding charsFrom firstChar octets encode skip isBlank isSpace isLetter digitVal digitRun strictRun finish fraction decimalRest decimal prefixed longestRun bareZero leadingZero withoutI number numberText lexNumber lexBy lexToken lex
+unfolding charsFrom firstChar octets encode skip isBlank isSpace isLetter digitVal digitRun strictRun finish fraction decimalRest decimal prefixed runLen bareZero leadingZero withoutI number numberText lexNumber lexBy lexToken lex
 leading-zero = (refl, refl, refl, refl, refl)
 
 hexadecimal : first false "0X1F" ≡ shown INT 4 (spelled "0x1F") 0 true
-unfolding charsFrom firstChar octets encode skip isBlank isSpace isLetter digitVal digitRun strictRun decimal prefixed longestRun bareZero leadingZero withoutI number numberText lexNumber lexBy lexToken lex
+unfolding charsFrom firstChar octets encode skip isBlank isSpace isLetter digitVal digitRun strictRun decimal prefixed runLen bareZero leadingZero withoutI number numberText lexNumber lexBy lexToken lex
 hexadecimal = refl
 
 doubled : first false "1__0" ≡ shown ILLEGAL 2 (spelled "1_") MISPLACED-UNDERSCORE true
@@ -104,11 +104,11 @@ abbrev way : String → Text
 way s = let r = chars (spelled s) in let x = lexToken false r in textWay (take (x .len) r) x
 
 octal-way : way "08" ≡ Number OctalPrefix
-unfolding same charsFrom firstChar octets encode isLetter digitVal digitRun strictRun decimal prefixed longestRun bareZero leadingZero withoutI number numberText lexNumber lexBy lexToken
+unfolding same charsFrom firstChar octets encode isLetter digitVal digitRun strictRun decimal prefixed runLen bareZero leadingZero withoutI number numberText lexNumber lexBy lexToken
 octal-way = refl
 
 prefix-way : way "0X1F" ≡ Number LowerPrefix
-unfolding same charsFrom firstChar octets encode isLetter digitVal digitRun strictRun decimal prefixed longestRun bareZero leadingZero withoutI number numberText lexNumber lexBy lexToken
+unfolding same charsFrom firstChar octets encode isLetter digitVal digitRun strictRun decimal prefixed runLen bareZero leadingZero withoutI number numberText lexNumber lexBy lexToken
 prefix-way = refl
 
 line-way : way "// c" ≡ WithLf

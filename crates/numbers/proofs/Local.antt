@@ -19,7 +19,7 @@ use Rattle.errors.specs.Numbers.{BAD-BINARY, BAD-OCTAL, BAD-HEXADECIMAL, MISPLA
 use Rattle.digits.specs.Digit.{digitVal, isDecimal}
 use Rattle.numbers.specs.declared.Spelling.{Spelling}
 use Rattle.numbers.specs.declared.Spelling.the-variants.{AsRead, LowerPrefix, OctalPrefix, LowerExponent}
-use Rattle.numbers.specs.Run.{Run, endOfRun, longerRun, digitRun, strictRun, inRun, longestRun}
+use Rattle.numbers.specs.Run.{Run, endOfRun, longerRun, digitRun, strictRun, isDigitOrUnderscore, runLen}
 use Rattle.numbers.proofs.Runs.{digit-from, in-run-plain}
 use Rattle.numbers.specs.Number.{Numeral, afterChars, illegal, good, exponentDigits, exponent, finish, fraction, decimalRest, decimal, prefixed, makesDecimal, isBareOctal, bareZero, leadingZero, withoutI, number}
 
@@ -57,13 +57,13 @@ strict-local base b (c ∷ r) t h = go (eqb (c .code) (code "_")) (unfold RunLoc
     go true q = (refl, omega arith)
     go false q = q
 
-longest-local : (r t : List Char) → Ends r → (longestRun (r ++ t) ≡ longestRun r) × (longestRun r < length r)
-unfolding longestRun
+longest-local : (r t : List Char) → Ends r → (runLen (r ++ t) ≡ runLen r) × (runLen r < length r)
+unfolding runLen
 longest-local [] t h = absurd h
-longest-local (c ∷ r) t h = go (inRun (c .code)) refl (longest-local r t)
+longest-local (c ∷ r) t h = go (isDigitOrUnderscore (c .code)) refl (longest-local r t)
   where
-    go : (x : Bool) → inRun (c .code) ≡ x → (Ends r → (longestRun (r ++ t) ≡ longestRun r) × (longestRun r < length r))
-        → (cond x (suc (longestRun (r ++ t))) 0 ≡ cond x (suc (longestRun r)) 0) × (cond x (suc (longestRun r)) 0 < suc (length r))
+    go : (x : Bool) → isDigitOrUnderscore (c .code) ≡ x → (Ends r → (runLen (r ++ t) ≡ runLen r) × (runLen r < length r))
+        → (cond x (suc (runLen (r ++ t))) 0 ≡ cond x (suc (runLen r)) 0) × (cond x (suc (runLen r)) 0 < suc (length r))
     go true e ih = let q = ih (ends-tail c r h (in-run-plain (c .code) e .2)) in (ap suc (q .0), omega (arith, q .1))
     go false e ih = (refl, omega arith)
 
@@ -155,7 +155,7 @@ module _ (r t : List Char) (h : Ends r) (k : 1 < length r) where
   octal-same : isBareOctal (r ++ t) ≡ isBareOctal r
   octal-same =
       let q = longest-local r t h in
-      ap₂ (λ x y. inRun x && not (makesDecimal y)) (peek-append 1 r t k) (ap (λ n. peek (drop n (r ++ t))) (q .0) ∙ peek-append (longestRun r) r t (q .1))
+      ap₂ (λ x y. isDigitOrUnderscore x && not (makesDecimal y)) (peek-append 1 r t k) (ap (λ n. peek (drop n (r ++ t))) (q .0) ∙ peek-append (runLen r) r t (q .1))
 
   bare-local : Local bareZero r t
   unfolding bareZero

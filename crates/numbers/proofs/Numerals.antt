@@ -19,7 +19,7 @@ use Rattle.errors.specs.Numbers.{BAD-OCTAL, MISPLACED-UNDERSCORE, BAD-EXPONENT}
 use Rattle.digits.specs.Digit.{isDecimal}
 use Rattle.numbers.specs.declared.Spelling.{Spelling}
 use Rattle.numbers.specs.declared.Spelling.the-variants.{AsRead, OctalPrefix, LowerExponent}
-use Rattle.numbers.specs.Run.{Run, digitRun, strictRun, inRun, longestRun}
+use Rattle.numbers.specs.Run.{Run, digitRun, strictRun, isDigitOrUnderscore, runLen}
 use Rattle.numbers.specs.Number.{Numeral, afterChars, exponentDigits, exponent, finish, fraction, decimalRest, decimal, prefixedDigits, prefixed, makesDecimal, isBareOctal, bareZero, zeroBy, leadingZero, withoutI, numberAt}
 use Rattle.numbers.proofs.Runs.{run-place, strict-place, next-place, run-next, longest-place}
 
@@ -163,10 +163,10 @@ module _ (s : List ℕ) (at : ℕ) where
     first-place = next-place s at (code "0") zero (lit< tt) (lit< tt)
 
     -- what follows the 0, and what follows the run
-    pub octal-is : isBareOctal (chars (drop at s)) ≡ inRun (getD s (at + 1) 0) && not (makesDecimal (getD s (at + longestRun (chars (drop at s))) 0))
+    pub octal-is : isBareOctal (chars (drop at s)) ≡ isDigitOrUnderscore (getD s (at + 1) 0) && not (makesDecimal (getD s (at + runLen (chars (drop at s))) 0))
     octal-is =
-        ap₂ (λ x y. x && not y) (ap (λ r. inRun (peek r)) first-place ∙ run-next s (at + 1))
-        (ap (λ r. makesDecimal (peek r)) (longest-place s at) ∙ mark-next s (at + longestRun (chars (drop at s))))
+        ap₂ (λ x y. x && not y) (ap (λ r. isDigitOrUnderscore (peek r)) first-place ∙ run-next s (at + 1))
+        (ap (λ r. makesDecimal (peek r)) (longest-place s at) ∙ mark-next s (at + runLen (chars (drop at s))))
 
     pub bare-octal : isBareOctal (chars (drop at s)) ≡ true → numberAt at (bareZero (chars (drop at s))) ≡ numberAt (at + 1) (prefixed 8 BAD-OCTAL OctalPrefix (chars (drop (at + 1) s)))
     unfolding bareZero

@@ -20,7 +20,7 @@ use Rattle.utf8.proofs.First.{chars-at, chars-end, chars-ascii}
 use Rattle.utf8.proofs.Places.{code-there, test-there, test-next, ascii-place}
 use Rattle.digits.specs.Digit.{digitVal, isDecimal}
 use Rattle.digits.proofs.Digits.{digit-low, digit-there}
-use Rattle.numbers.specs.Run.{Run, endOfRun, longerRun, digitRun, strictRun, inRun, longestRun}
+use Rattle.numbers.specs.Run.{Run, endOfRun, longerRun, digitRun, strictRun, isDigitOrUnderscore, runLen}
 use Rattle.numbers.specs.Steps.{digitsAt}
 
 -- one character on from a place
@@ -145,36 +145,36 @@ pub next-place : (s : List ℕ) (p x : ℕ) → getD s p 0 ≡ x → 0 < x → x
 next-place s p x e l h = let z = reach s p (omega arith) in rw (chars-ascii s p z (omega arith))
 
 -- ---- the longest run of digits and underscores
-run-high : (c : ℕ) → 0x80 ≤ c → inRun c ≡ false
+run-high : (c : ℕ) → 0x80 ≤ c → isDigitOrUnderscore c ≡ false
 run-high c h = rw (above-it (code "0") c (code "9") (omega arith) (omega arith), ne-eqb c (code "_") (λ e. omega arith))
 
-pub run-next : (s : List ℕ) (p : ℕ) → inRun (peek (chars (drop p s))) ≡ inRun (getD s p 0)
-run-next s p = test-next s p inRun run-high
+pub run-next : (s : List ℕ) (p : ℕ) → isDigitOrUnderscore (peek (chars (drop p s))) ≡ isDigitOrUnderscore (getD s p 0)
+run-next s p = test-next s p isDigitOrUnderscore run-high
 
-pub in-run-plain : (c : ℕ) → inRun c ≡ true → (0 < c) × (c < 0x80) × (c ≢ code "\n")
+pub in-run-plain : (c : ℕ) → isDigitOrUnderscore c ≡ true → (0 < c) × (c < 0x80) × (c ≢ code "\n")
 in-run-plain c t =
     ⊎-elim (λ (d : isDecimal c ≡ true). let z = between-true (code "0") c (code "9") d in (omega arith, omega arith, λ e. omega arith))
     (λ (d : isDecimal c ≡ false). let z = eqb-true c (code "_") (rw d at t) in (omega arith, omega arith, λ e. omega arith)) (either (isDecimal c))
 
 module _ (s : List ℕ) (p : ℕ) where
-  pub longest-more : inRun (getD s p 0) ≡ true → longestRun (chars (drop p s)) ≡ suc (longestRun (chars (drop (p + 1) s)))
-  unfolding longestRun
+  pub longest-more : isDigitOrUnderscore (getD s p 0) ≡ true → runLen (chars (drop p s)) ≡ suc (runLen (chars (drop (p + 1) s)))
+  unfolding runLen
   longest-more e = let q = in-run-plain (getD s p 0) e in rw (chars-ascii s p (reach s p (q .0)) (q .1), e)
 
-  pub longest-stop : inRun (getD s p 0) ≡ false → longestRun (chars (drop p s)) ≡ 0
-  unfolding longestRun
+  pub longest-stop : isDigitOrUnderscore (getD s p 0) ≡ false → runLen (chars (drop p s)) ≡ 0
+  unfolding runLen
   longest-stop e =
       elim (decLt p (length s)) [
-        | yes h ↦ rw (chars-at s p h, test-there s p inRun run-high h, e)
+        | yes h ↦ rw (chars-at s p h, test-there s p isDigitOrUnderscore run-high h, e)
         | no h ↦ rw (chars-end s p (omega arith))
       ]
 
-longest-plain : (r : List Char) → Plain (longestRun r) r
-unfolding longestRun
+longest-plain : (r : List Char) → Plain (runLen r) r
+unfolding runLen
 longest-plain [] = plain-none []
 longest-plain (c ∷ r) =
-    cond-ind (λ n. Plain n (c ∷ r)) (inRun (c .code)) _ _
-    (λ e. let q = in-run-plain (c .code) e in plain-more (longestRun r) c r (q .0) (q .1) (q .2) (longest-plain r)) (λ _. plain-none (c ∷ r))
+    cond-ind (λ n. Plain n (c ∷ r)) (isDigitOrUnderscore (c .code)) _ _
+    (λ e. let q = in-run-plain (c .code) e in plain-more (runLen r) c r (q .0) (q .1) (q .2) (longest-plain r)) (λ _. plain-none (c ∷ r))
 
-pub longest-place : (s : List ℕ) (p : ℕ) → drop (longestRun (chars (drop p s))) (chars (drop p s)) ≡ chars (drop (p + longestRun (chars (drop p s))) s)
+pub longest-place : (s : List ℕ) (p : ℕ) → drop (runLen (chars (drop p s))) (chars (drop p s)) ≡ chars (drop (p + runLen (chars (drop p s))) s)
 longest-place s p = plain-place _ s p (longest-plain (chars (drop p s)))

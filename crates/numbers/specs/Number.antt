@@ -14,7 +14,7 @@ use Rattle.digits.specs.Digit.{isDecimal}
 use Rattle.numbers.specs.declared.Number.{Number}
 use Rattle.numbers.specs.declared.Spelling.{Spelling}
 use Rattle.numbers.specs.declared.Spelling.the-variants.{AsRead, LowerPrefix, OctalPrefix, LowerExponent}
-use Rattle.numbers.specs.Run.{Run, digitRun, strictRun, inRun, longestRun}
+use Rattle.numbers.specs.Run.{Run, digitRun, strictRun, isDigitOrUnderscore, runLen}
 
 pub record Numeral : Type 0 where
   pub kind : ℕ
@@ -22,7 +22,7 @@ pub record Numeral : Type 0 where
   pub error : ℕ
   pub spelling : Spelling
 
--- a number of the kind, with nothing more read
+-- a number of the kind and of len characters, without an error
 abbrev pub good : ℕ → ℕ → Spelling → Numeral
 good kind len s = record { kind = kind; len = len; error = 0; spelling = s }
 
@@ -73,20 +73,22 @@ prefixedDigits base error s d next =
     cond (d .misplaced) (illegal MISPLACED-UNDERSCORE (d .len) s)
     (cond (eqb (d .len) 0 || (leb base 8 && isDecimal next)) (illegal error (d .len) s) (good INT (d .len) s))
 
--- after a prefix
+-- after a prefix, which is the 0 alone in a bare octal number
 unfoldable pub prefixed : ℕ → ℕ → Spelling → List Char → Numeral
 prefixed base error s r = prefixedDigits base error s (digitRun base false r) (peek (drop (digitRun base false r .len) r))
 
--- what a decimal number goes on with after its first digits
+-- before one of these, a number with a leading 0 is decimal
 abbrev pub makesDecimal : ℕ → Bool
 makesDecimal c = eqb c (code ".") || eqb c (code "e") || eqb c (code "E") || eqb c (code "i")
 
--- "After a 0 followed by a digit or underscore, take the longest run of digits and underscores.
--- Before `.`, e, E or i it is decimal .. Otherwise the bare octal rules apply"
+-- of a number that starts with 0 and has no letter of a prefix. Request 3: "After a 0 followed by a
+-- digit or underscore, take the longest run of digits and underscores. Before `.`, e, E or i it is
+-- decimal .. Otherwise the bare octal rules apply". So in the Go specification `072.40` is 72.40,
+-- `0123i` is 123i, and `0_600` is octal.
 abbrev pub isBareOctal : List Char → Bool
-isBareOctal r = inRun (peek (drop 1 r)) && not (makesDecimal (peek (drop (longestRun r) r)))
+isBareOctal r = isDigitOrUnderscore (peek (drop 1 r)) && not (makesDecimal (peek (drop (runLen r) r)))
 
--- a 0 without a prefix: octal digits follow it, or it is the first digit of a decimal number
+-- such a number: bare octal, or decimal. "A misplaced underscore ends either as in `1__0`."
 unfoldable pub bareZero : List Char → Numeral
 bareZero r = cond (isBareOctal r) (afterChars 1 (prefixed 8 BAD-OCTAL OctalPrefix (drop 1 r))) (decimal r)
 

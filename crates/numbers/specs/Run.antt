@@ -34,11 +34,12 @@ unfoldable pub strictRun : ℕ → List Char → Run
 strictRun base [] = endOfRun false
 strictRun base (c ∷ r) = cond (eqb (c .code) (code "_")) (endOfRun true) (digitRun base false (c ∷ r))
 
--- a digit or an underscore
-abbrev pub inRun : ℕ → Bool
-inRun c = isDecimal c || eqb c (code "_")
+-- ---- "the longest run of digits and underscores", which request 3 takes after a 0: they may stand
+-- in any order
+abbrev pub isDigitOrUnderscore : ℕ → Bool
+isDigitOrUnderscore c = isDecimal c || eqb c (code "_")
 
--- "the longest run of digits and underscores", in whatever order: how many characters it has
-unfoldable pub longestRun : List Char → ℕ
-longestRun [] = 0
-longestRun (c ∷ r) = cond (inRun (c .code)) (suc (longestRun r)) 0
+-- how many characters the run has
+unfoldable pub runLen : List Char → ℕ
+runLen [] = 0
+runLen (c ∷ r) = cond (isDigitOrUnderscore (c .code)) (suc (runLen r)) 0

@@ -1,5 +1,6 @@
--- The text of a number: "Prefixes are written lower case in the text, and so is the exponent's e. A
--- 0 followed by a digit is octal, and its text gains an o".
+-- The text of a number: "Prefixes are written lower case in the text, and so is the exponent's e." A
+-- bare octal number "gains an o": `017` gives `0o17`, and `0_600` gives `0o_600`. The digits of a
+-- decimal number stay "as written", also after a leading 0.
 use Prim.Native.Nat.{ℕ, _+_}
 use Prim.Native.Char.{code}
 use mathlib.Core.Bool.{cond}

@@ -154,21 +154,21 @@ fn scan_prefixed(src: &[u8], at: usize, base: u8, error: u8, spelling: Spelling)
     good(kinds::INT, end, spelling)
 }
 
-// Does a decimal number go on with this byte after its first digits?
+// Is a number with a leading 0 decimal before this byte?
 fn makes_decimal(b: u8) -> bool
     ensures { λ r. ⌜ r ≡ makesDecimal b ⌝ }
 {
     (b == b'.') | (b == b'e') | (b == b'E') | (b == b'i')
 }
 
-// Does a 0 without a prefix start an octal number? It does before a digit or an underscore, unless
-// what follows the run of these makes the number decimal.
+// Is a number octal that starts with 0 and has no letter of a prefix? It is if a digit or an
+// underscore follows the 0, unless what follows the run of these makes the number decimal.
 fn is_bare_octal(src: &[u8], at: usize) -> bool
     requires { ⌜ ZeroAt (now src) at ⌝ }
     ensures { λ r. ⌜ r ≡ isBareOctal (chars (drop at (now (src .entry)))) ⌝ }
 {
-    if run::in_run(utf8::byte(src, at + 1)) {
-        let end = run::longest_end(src, at);
+    if run::is_digit_or_underscore(utf8::byte(src, at + 1)) {
+        let end = run::run_end(src, at);
         return !makes_decimal(utf8::byte(src, end));
     }
     false

@@ -4,7 +4,7 @@ ghost use mathlib.Core.Bool.{false};
 ghost use Prim.Native.Nat.{_+_, _≤_};
 ghost use lib.ListN.{drop};
 ghost use Rattle.utf8.specs.Chars.{chars};
-ghost use Rattle.numbers.specs.Run.{digitRun, strictRun, inRun, longestRun};
+ghost use Rattle.numbers.specs.Run.{digitRun, strictRun, isDigitOrUnderscore, runLen};
 ghost use Rattle.numbers.specs.Steps.{digitsAt};
 
 // A run of digits and underscores: the place after it, and whether an underscore is misplaced where
@@ -63,19 +63,18 @@ pub(crate) fn scan_strict_digits(src: &[u8], at: usize, base: u8) -> Digits
     scan_digits(src, at, base)
 }
 
-// Is a byte a digit or an underscore?
-pub(crate) fn in_run(b: u8) -> bool
-    ensures { λ r. ⌜ r ≡ inRun b ⌝ }
+pub(crate) fn is_digit_or_underscore(b: u8) -> bool
+    ensures { λ r. ⌜ r ≡ isDigitOrUnderscore b ⌝ }
 {
     digits::is_decimal(b) | (b == b'_')
 }
 
-// The place after the longest run of digits and underscores, in whatever order.
-pub(crate) fn longest_end(src: &[u8], at: usize) -> usize
-    ensures { λ r. ⌜ r ≡ at + longestRun (chars (drop at (now (src .entry)))) ⌝ }
+// The place after the longest run of digits and underscores, which may stand in any order.
+pub(crate) fn run_end(src: &[u8], at: usize) -> usize
+    ensures { λ r. ⌜ r ≡ at + runLen (chars (drop at (now (src .entry)))) ⌝ }
 {
     let mut p = at;
-    while in_run(utf8::byte(src, p)) {
+    while is_digit_or_underscore(utf8::byte(src, p)) {
         p += 1;
     }
     p

@@ -17,7 +17,7 @@ use Rattle.digits.specs.Digit.{digitVal}
 use Rattle.words.specs.Word.{isLetter, isWord, wordLen}
 use Rattle.blanks.specs.Blank.{isSpace, isBlank, skip}
 use Rattle.operators.specs.Longest.{begins, longest}
-use Rattle.numbers.specs.Run.{digitRun, longestRun}
+use Rattle.numbers.specs.Run.{digitRun, runLen}
 use Rattle.numbers.specs.Number.{finish, decimalRest, decimal, prefixed, bareZero, leadingZero, withoutI, number}
 use Rattle.numbers.specs.Spelling.{numberText}
 use Rattle.lexer.specs.Words.{wordLexeme, lexNumber}
@@ -106,7 +106,7 @@ given : FirstEof x h₁ ending ts
     × (length (tokens x (take 4 ending) h₁) ≤ length ts)
     × (length (tokens (x ++ y) joined h) ≡ length ts + length (tokens y second h₂))
     × (0 < length (tokens y second h₂))
-unfolding same charsFrom firstChar octets encode keywords operators kindNamed digitVal isLetter isWord wordLen isSpace isBlank skip begins longest digitRun finish decimalRest decimal prefixed longestRun bareZero leadingZero withoutI number numberText wordLexeme lexNumber lexOperator lexBy lexToken lex Placed.placed readLines readLine inRange fitting numbers recordAt errorsOf after fresh shownOf view scanBy scanOf call play tokens recordOf
+unfolding same charsFrom firstChar octets encode keywords operators kindNamed digitVal isLetter isWord wordLen isSpace isBlank skip begins longest digitRun finish decimalRest decimal prefixed runLen bareZero leadingZero withoutI number numberText wordLexeme lexNumber lexOperator lexBy lexToken lex Placed.placed readLines readLine inRange fitting numbers recordAt errorsOf after fresh shownOf view scanBy scanOf call play tokens recordOf
 given =
     let before : NoEof ts = (eqb-false IDENT EOF refl, (eqb-false ASSIGN EOF refl, (eqb-false INT EOF refl, (eqb-false SEMICOLON EOF refl, tt)))) in
     (record { last = seen EOF false 8 false ""; all = refl; before = before; ends = refl; shut = tt }, refl, lit≤ tt, refl, lit< tt)
@@ -137,5 +137,5 @@ pub computed :
     × (map shows (tokens (x ++ y) joined h)
     ≡ shownToken IDENT 100 "x" ∷ shownToken ASSIGN 102 "" ∷ shownToken INT 104 "0o17" ∷ shownToken SEMICOLON 107 ""
     ∷ shownToken ILLEGAL 108 "0o" ∷ shownToken INT 109 "8" ∷ shownToken SEMICOLON 110 "" ∷ shownToken EOF 110 "" ∷ [])
-unfolding same charsFrom firstChar octets encode keywords operators kindNamed digitVal isLetter isWord wordLen isSpace isBlank skip begins longest digitRun finish decimalRest decimal prefixed longestRun bareZero leadingZero withoutI number numberText wordLexeme lexNumber lexOperator lexBy lexToken lex Placed.placed readLines readLine inRange fitting numbers recordAt errorsOf after fresh shownOf view scanBy scanOf call play tokens recordOf
+unfolding same charsFrom firstChar octets encode keywords operators kindNamed digitVal isLetter isWord wordLen isSpace isBlank skip begins longest digitRun finish decimalRest decimal prefixed runLen bareZero leadingZero withoutI number numberText wordLexeme lexNumber lexOperator lexBy lexToken lex Placed.placed readLines readLine inRange fitting numbers recordAt errorsOf after fresh shownOf view scanBy scanOf call play tokens recordOf
 computed = (refl, refl, refl, refl, refl)

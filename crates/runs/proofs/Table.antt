@@ -8,7 +8,7 @@ use Rattle.kinds.specs.Table.{keywords, kindNamed}
 use Rattle.digits.specs.Digit.{digitVal}
 use Rattle.words.specs.Word.{isLetter, isWord, wordLen}
 use Rattle.blanks.specs.Blank.{isSpace, isBlank, skip}
-use Rattle.numbers.specs.Run.{digitRun, longestRun}
+use Rattle.numbers.specs.Run.{digitRun, runLen}
 use Rattle.numbers.specs.Number.{finish, decimalRest, decimal, prefixed, bareZero, leadingZero, withoutI, number}
 use Rattle.numbers.specs.Spelling.{numberText}
 use Rattle.escapes.specs.EscapeDigits.{escapeDigits}
@@ -46,7 +46,7 @@ abbrev _also_ : {A B : Type 0} → A → B → A × B
 _also_ a b = (a, b)
 
 pub table-holds : TableHolds
-unfolding rows same charsFrom firstChar octets encode keywords kindNamed digitVal isLetter isWord wordLen isSpace isBlank skip digitRun finish decimalRest decimal prefixed longestRun bareZero leadingZero withoutI number numberText escapeDigits letter byteOf octalEscape escapeOf bodyFrom toStop toStarSlash clean blankToEnd endsLine wordLexeme lexNumber lexString lexChar lexRaw comment lexComment lexSlash lexBy lexToken lex Placed.placed readLines readLine inRange fitting numbers recordAt errorsOf after fresh openOf shownOf view scanBy scanOf call play tokens
+unfolding rows same charsFrom firstChar octets encode keywords kindNamed digitVal isLetter isWord wordLen isSpace isBlank skip digitRun finish decimalRest decimal prefixed runLen bareZero leadingZero withoutI number numberText escapeDigits letter byteOf octalEscape escapeOf bodyFrom toStop toStarSlash clean blankToEnd endsLine wordLexeme lexNumber lexString lexChar lexRaw comment lexComment lexSlash lexBy lexToken lex Placed.placed readLines readLine inRange fitting numbers recordAt errorsOf after fresh openOf shownOf view scanBy scanOf call play tokens
 table-holds =
     record { accepted = record { lent = replicate 4 0; opening = refl }; gives = refl; shown = shown 1; errors = refl } also
     record { accepted = record { lent = replicate 4 0; opening = refl }; gives = refl; shown = shown 3; errors = refl } also

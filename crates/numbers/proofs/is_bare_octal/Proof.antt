@@ -5,7 +5,7 @@ use mathlib.Core.Bool.{Bool, not, _&&_}
 use native.Mathlib.Omega.{arith}
 use lib.ListN.{getD}
 use Rattle.basics.proofs.Lists.{reach}
-use Rattle.numbers.specs.Run.{inRun}
+use Rattle.numbers.specs.Run.{isDigitOrUnderscore}
 use Rattle.numbers.specs.Number.{makesDecimal}
 use Rattle.numbers.proofs.Numerals.{octal-is}
 use borrow.Author.Needs.{needs}
@@ -20,15 +20,15 @@ add-byte c =
 byte-requires : tie.Need-byte-requires
 byte-requires c κs = search needs
 
-in-run-requires : tie.Need-in-run-requires
-in-run-requires c κs = search needs
+is-digit-or-underscore-requires : tie.Need-is-digit-or-underscore-requires
+is-digit-or-underscore-requires c κs = search needs
 
 -- the code's test is the definition's
-follows : (c : tie.After-in-run) → let a = c .before .before .before .args in c .in-run .result ≡ inRun (getD (a .src .now) (a .at + 1) 0)
-follows c = c .in-run .ensures ∙ ap inRun (c .before .byte .ensures)
+follows : (c : tie.After-is-digit-or-underscore) → let a = c .before .before .before .args in c .is-digit-or-underscore .result ≡ isDigitOrUnderscore (getD (a .src .now) (a .at + 1) 0)
+follows c = c .is-digit-or-underscore .ensures ∙ ap isDigitOrUnderscore (c .before .byte .ensures)
 
-longest-end-requires : tie.Need-longest-end-requires
-longest-end-requires c κs = search needs
+run-end-requires : tie.Need-run-end-requires
+run-end-requires c κs = search needs
 
 byte-requires-2 : tie.Need-byte-requires-2
 byte-requires-2 c κs = search needs
@@ -40,7 +40,7 @@ returns : tie.Need-returns
 returns c =
     let t = c .before .before .before in
     let i = t .before .before .before .before in
-    let mark = c .makes-decimal .ensures ∙ ap makesDecimal (c .before .byte2 .ensures ∙ ap (λ p. getD (i .args .src .now) p 0) (c .before .before .longest-end .ensures)) in
+    let mark = c .makes-decimal .ensures ∙ ap makesDecimal (c .before .byte2 .ensures ∙ ap (λ p. getD (i .args .src .now) p 0) (c .before .before .run-end .ensures)) in
     ap not mark ∙ sym (octal-is (i .args .src .now) (i .args .at) (i .pre) ∙ rw (sym (follows (t .before)) ∙ t .if1 .taken))
 
 returns-2 : tie.Need-returns-2
@@ -54,8 +54,8 @@ is-bare-octal-spec =
     (tie.spec
     add-byte
     byte-requires
-    in-run-requires
-    longest-end-requires
+    is-digit-or-underscore-requires
+    run-end-requires
     byte-requires-2
     makes-decimal-requires
     returns
