@@ -129,7 +129,8 @@ impl Comparison {
         let number = self.total.inputs;
         let mut result = self.compare_all(source, size, number);
         if number % 64 == 0 && self.ours.end == End::Whole && source.len() <= 1024 {
-            let asked = self.total.questions.ask(source, size, &self.ours);
+            let misplaces = !self.theirs.errors.is_empty();
+            let asked = self.total.questions.ask(source, size, &self.ours, misplaces);
             result = result.and_then(|reasons| asked.map(|()| reasons));
         }
         let total = &mut self.total;

@@ -14,11 +14,11 @@ pub struct Counts {
 }
 
 impl Counts {
-    /// Asks about every line and every position, and those next to them. The base is 5 where the
-    /// original has no error to misplace, else 0. Where the original panics in a scan nothing is
-    /// asked.
-    pub fn ask(&mut self, source: &[u8], size: usize, listing: &Listing) -> Result<(), String> {
-        let base = if listing.errors.is_empty() && size < 1 << 31 { 5 } else { 0 };
+    /// Asks about every line and every position of ours, and those next to them. The base is 5
+    /// where the original has no error to misplace, else 0. Where the original panics in a scan
+    /// nothing is asked.
+    pub fn ask(&mut self, source: &[u8], size: usize, listing: &Listing, misplaces: bool) -> Result<(), String> {
+        let base = if !misplaces && size < 1 << 31 { 5 } else { 0 };
         let last = listing.rows.last().map_or(0, |row| row.offset);
         let mut positions: Vec<usize> = (base..=base + last).collect();
         positions.extend([base + size, base + size + 1, base.wrapping_sub(1)]);
