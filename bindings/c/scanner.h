@@ -414,6 +414,11 @@ uint8_t scanner_error(const size_t *state, size_t state_len, const size_t *list,
  * area as the token's own scan left it. Operators (semicolons among them), keywords and EOF have
  * an empty text: a part of the source at the place of the token. A part that is not inside its
  * buffer, as one of a token that no scan gave may be, is refused with SCANNER_DOES_NOT_FIT.
+ *
+ * Comments and raw strings are shown without CR, and a comment to the end of a line with its LF. In
+ * numbers, prefix and exponent are shown in lower case. An octal number that starts with 0 alone
+ * is shown with an o: `017` as `0o17`, `0_600` as `0o_600`. If `.`, e, E or i follows its digits and
+ * underscores, a number that starts with 0 is decimal, and they are shown as they are: `072.40`.
  */
 uint8_t scanner_text(const uint8_t *src, size_t src_len, const uint8_t *area, size_t area_len,
                      const size_t *token, size_t token_len, size_t *answer, size_t answer_len);

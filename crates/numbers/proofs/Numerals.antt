@@ -31,8 +31,8 @@ pub digit-next : (s : List ℕ) (p : ℕ) → isDecimal (peek (chars (drop p s))
 digit-next s p = test-next s p isDecimal (λ c h. above-it (code "0") c (code "9") (omega arith) (omega arith))
 
 -- ---- what makes a number decimal
-mark-high : (c : ℕ) → 0x80 ≤ c → makesDecimal c ≡ false
-mark-high c h =
+decimal-high : (c : ℕ) → 0x80 ≤ c → makesDecimal c ≡ false
+decimal-high c h =
     rw (
       ne-eqb c (code ".") (λ e. omega arith),
       ne-eqb c (code "e") (λ e. omega arith),
@@ -40,8 +40,8 @@ mark-high c h =
       ne-eqb c (code "i") (λ e. omega arith),
     )
 
-mark-next : (s : List ℕ) (p : ℕ) → makesDecimal (peek (chars (drop p s))) ≡ makesDecimal (getD s p 0)
-mark-next s p = test-next s p makesDecimal mark-high
+decimal-next : (s : List ℕ) (p : ℕ) → makesDecimal (peek (chars (drop p s))) ≡ makesDecimal (getD s p 0)
+decimal-next s p = test-next s p makesDecimal decimal-high
 
 -- ---- the digits of an exponent
 module _ (at : ℕ) (s : Spelling) (d : Run) where
@@ -166,7 +166,7 @@ module _ (s : List ℕ) (at : ℕ) where
     pub octal-is : isBareOctal (chars (drop at s)) ≡ isDigitOrUnderscore (getD s (at + 1) 0) && not (makesDecimal (getD s (at + runLen (chars (drop at s))) 0))
     octal-is =
         ap₂ (λ x y. x && not y) (ap (λ r. isDigitOrUnderscore (peek r)) first-place ∙ run-next s (at + 1))
-        (ap (λ r. makesDecimal (peek r)) (longest-place s at) ∙ mark-next s (at + runLen (chars (drop at s))))
+        (ap (λ r. makesDecimal (peek r)) (longest-place s at) ∙ decimal-next s (at + runLen (chars (drop at s))))
 
     pub bare-octal : isBareOctal (chars (drop at s)) ≡ true → numberAt at (bareZero (chars (drop at s))) ≡ numberAt (at + 1) (prefixed 8 BAD-OCTAL OctalPrefix (chars (drop (at + 1) s)))
     unfolding bareZero

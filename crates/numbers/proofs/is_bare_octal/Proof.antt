@@ -1,7 +1,7 @@
 -- `numbers::is_bare_octal` meets its contract: by the byte after the 0, and the byte after the run.
 use Prim.Native.Nat.{_+_}
 use mathlib.Core.Path.{_≡_, sym, ap, _∙_}
-use mathlib.Core.Bool.{Bool, not, _&&_}
+use mathlib.Core.Bool.{not}
 use native.Mathlib.Omega.{arith}
 use lib.ListN.{getD}
 use Rattle.basics.proofs.Lists.{reach}
@@ -40,8 +40,8 @@ returns : tie.Need-returns
 returns c =
     let t = c .before .before .before in
     let i = t .before .before .before .before in
-    let mark = c .makes-decimal .ensures ∙ ap makesDecimal (c .before .byte2 .ensures ∙ ap (λ p. getD (i .args .src .now) p 0) (c .before .before .run-end .ensures)) in
-    ap not mark ∙ sym (octal-is (i .args .src .now) (i .args .at) (i .pre) ∙ rw (sym (follows (t .before)) ∙ t .if1 .taken))
+    let behind = c .makes-decimal .ensures ∙ ap makesDecimal (c .before .byte2 .ensures ∙ ap (λ p. getD (i .args .src .now) p 0) (c .before .before .run-end .ensures)) in
+    ap not behind ∙ sym (octal-is (i .args .src .now) (i .args .at) (i .pre) ∙ rw (sym (follows (t .before)) ∙ t .if1 .taken))
 
 returns-2 : tie.Need-returns-2
 returns-2 c =

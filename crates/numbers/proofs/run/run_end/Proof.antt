@@ -1,7 +1,7 @@
 -- `numbers::run::run_end` meets its contract. The loop's invariant: the run ends where it would from here.
 use Prim.Native.Nat.{_+_, _-_, _<_}
 use mathlib.Core.Path.{_≡_, refl, sym, ap, _∙_}
-use mathlib.Core.Bool.{true, false}
+use mathlib.Core.Bool.{true}
 use native.Mathlib.Omega.{arith}
 use lib.ListN.{length, getD, drop}
 use Rattle.basics.proofs.Lists.{reach}
