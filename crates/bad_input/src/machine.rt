@@ -3,7 +3,7 @@ ghost use Rattle.io.specs.Counts.{IsPrefixLen};
 
 use crate::registers::Registers;
 
-#[derive(Drop)]
+#[derive(Clone, Copy)]
 pub(crate) struct Machine {
     pub(crate) registers: Registers,
     pub(crate) table: [usize; 8],

@@ -8,6 +8,8 @@
 // - a capital and a small letter: a call. The capital says of what:
 //   U utf8, K keywords and kinds, P position, E errors, S the scanner,
 //   X parts of the source and of the area, T the table
+#![tactic(auto)]
+
 mod calls;
 mod machine;
 mod places;

@@ -1,1 +1,2 @@
 // No code: definitions and laws that every layer above uses.
+#![tactic(auto)]

@@ -1,4 +1,6 @@
 // Many scans in one call.
+#![tactic(auto)]
+
 mod first;
 mod layout;
 mod literal;

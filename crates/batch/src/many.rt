@@ -13,7 +13,7 @@ use state::State;
 
 // The refusal of the call, or 0; the state after its scans; how many tokens they gave. A call that
 // is refused leaves the state as it was and gives no token.
-#[derive(Drop)]
+#[derive(Clone, Copy)]
 pub struct Batch {
     pub refusal: u8,
     pub state: State,

@@ -5,7 +5,7 @@ ghost use Rattle.batch.specs.Near.{line_feed, SpaceTo, NearAt};
 // Such blanks: whether there are any, the place after them, whether they have a line feed, and the
 // place after that line feed, or where they start. (Small fields side by side would be packed into
 // one number and taken out of it again.)
-#[derive(Drop)]
+#[derive(Clone, Copy)]
 pub(crate) struct Near {
     pub(crate) found: bool,
     pub(crate) end: usize,

@@ -9,7 +9,7 @@ use parts::{Part, Token};
 
 // What comes of a simple token: whether it is found, the place after it, and the mark that it
 // leaves.
-#[derive(Drop)]
+#[derive(Clone, Copy)]
 pub(crate) struct Next {
     pub(crate) found: bool,
     pub(crate) place: usize,

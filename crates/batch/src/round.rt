@@ -14,7 +14,7 @@ use state::State;
 
 // How far scans have come: whether they go on, the state, the refusal of the next scan, or 0, and
 // how many tokens they gave.
-#[derive(Drop)]
+#[derive(Clone, Copy)]
 pub(crate) struct Round {
     pub(crate) more: bool,
     pub(crate) state: State,

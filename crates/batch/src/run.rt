@@ -10,7 +10,7 @@ use position::Line;
 use state::State;
 
 // The state after simple tokens, and how many tokens there are then.
-#[derive(Drop)]
+#[derive(Clone, Copy)]
 pub(crate) struct Run {
     pub(crate) state: State,
     pub(crate) count: usize,

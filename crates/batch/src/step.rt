@@ -13,7 +13,7 @@ use state::State;
 
 // How far a run of simple tokens has come, and whether it goes on: the place, the mark and the
 // count of line starts there, and how many tokens there are.
-#[derive(Drop)]
+#[derive(Clone, Copy)]
 pub(crate) struct Reached {
     pub(crate) more: bool,
     pub(crate) place: usize,

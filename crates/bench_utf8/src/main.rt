@@ -1,5 +1,7 @@
 // Checks what it reads from standard input, up to 65,536 bytes, 100,000 times over, and prints the
 // last answer.
+#![tactic(auto)]
+
 use libc::{STDIN_FILENO, STDOUT_FILENO};
 use validation::Checked;
 

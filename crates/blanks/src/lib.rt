@@ -1,4 +1,6 @@
 // Blanks between tokens.
+#![tactic(auto)]
+
 ghost use Rattle.std.specs.Prelude.{◌≡◌, drop};
 ghost use Rattle.utf8.specs.Chars.{chars};
 ghost use Rattle.blanks.specs.Blank.{is_space, skip, skipped_at};
@@ -6,7 +8,7 @@ ghost use Rattle.blanks.specs.Tabs.{TabsAt};
 
 // Blanks that were skipped: the place after them, how many line feeds they have, and the place
 // after the last of these, or where they start.
-#[derive(Drop)]
+#[derive(Clone, Copy)]
 pub struct Skipped {
     pub end: usize,
     pub lfs: usize,

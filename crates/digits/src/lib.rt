@@ -1,4 +1,6 @@
 // Digits.
+#![tactic(auto)]
+
 ghost use Rattle.std.specs.Prelude.{◌≡◌};
 ghost use Rattle.digits.specs.Digit.{digit_val, is_decimal};
 

@@ -1,4 +1,6 @@
 // The bytes that a code is written in.
+#![tactic(auto)]
+
 ghost use Rattle.std.specs.Prelude.{◌≡◌, length, get_or};
 ghost use Rattle.utf8.specs.Chars.{encode};
 ghost use Rattle.encoding.specs.Steps.{digit, lead};

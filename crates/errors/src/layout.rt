@@ -4,7 +4,7 @@ ghost use Rattle.std.proofs.lemmas.List.Edits.{sets};
 ghost use Rattle.errors.specs.Layout.{width, numbers, record_at};
 
 // An error: where it was found, and its number.
-#[derive(Drop)]
+#[derive(Clone, Copy)]
 pub struct Error {
     pub offset: usize,
     pub line: usize,

@@ -1,4 +1,6 @@
 // The list of errors, in order of arrival, in a slice that the caller lends.
+#![tactic(auto)]
+
 ghost use Rattle.std.specs.Prelude.{◌≡◌};
 ghost use Rattle.errors.specs.Answers.{add_outcome, got};
 ghost use Rattle.errors.specs.Errors.{room_of, add_to, get_of};
@@ -14,14 +16,14 @@ pub use names::{
 };
 
 // The number of errors after one was added, or the number of the refusal.
-#[derive(Drop)]
+#[derive(Clone, Copy)]
 pub enum Added {
     Count(usize),
     Refused(u8),
 }
 
 // The error asked for, nothing where the list has none there, or the number of the refusal.
-#[derive(Drop)]
+#[derive(Clone, Copy)]
 pub enum Got {
     Found(Error),
     Nothing,
@@ -37,7 +39,7 @@ pub fn room(list: &[usize]) -> usize
 
 // Adds an error after the first `count`.
 pub fn add(list: &mut [usize], count: usize, error: Error) -> Added
-    ensures { record { list = list.exit.now; outcome = add_outcome result } ≡ add_to list.entry.now count error }
+    ensures { record { list = list.new; outcome = add_outcome result } ≡ add_to list.old count error }
 {
     let most = room(list);
     if count > most {

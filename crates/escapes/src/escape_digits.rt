@@ -4,7 +4,7 @@ ghost use Rattle.utf8.specs.Chars.{chars};
 ghost use Rattle.escapes.specs.EscapeDigits.{escape_digits};
 
 // Digits that were read: their value, how many, and the number of the error where they are too few.
-#[derive(Drop)]
+#[derive(Clone, Copy)]
 pub(crate) struct EscapeDigits {
     pub(crate) value: u32,
     pub(crate) len: usize,

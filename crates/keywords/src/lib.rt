@@ -1,4 +1,6 @@
 // The kind of a word: one of the 25 keywords, or an identifier.
+#![tactic(auto)]
+
 ghost use Rattle.std.specs.Prelude.{◌≡◌, ◌+◌, ◌-◌, ◌*◌, ◌^◌, ◌≤◌, ◌<◌, min, length, take};
 ghost use Rattle.basics.specs.Same.{same};
 ghost use Rattle.swar.specs.Number.{number_of};
@@ -65,7 +67,7 @@ fn number_of(text: &[u8], n: usize) -> u64
 }
 
 // A keyword's kind, and its spelling as a number.
-#[derive(Drop)]
+#[derive(Clone, Copy)]
 struct Row(u8, u64);
 
 // The slot of a word by its length and its first two bytes: no two keywords of at most eight bytes

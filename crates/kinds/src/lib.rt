@@ -1,4 +1,6 @@
 // Tokens: their kinds, names and classes, and the precedence of operators.
+#![tactic(auto)]
+
 mod class;
 mod names;
 

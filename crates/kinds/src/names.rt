@@ -6,7 +6,7 @@ ghost use Rattle.kinds.specs.Names.{padded};
 use crate::*;
 
 // A name: its first `len` bytes; the other bytes are zero.
-#[derive(Drop)]
+#[derive(Clone, Copy)]
 pub struct Padded {
     pub bytes: [u8; 11],
     pub len: usize,

@@ -5,7 +5,7 @@ ghost use Rattle.lexer.specs.declared.lexed.Value.TheVariants.{Empty as NoValue}
 ghost use Rattle.lexer.specs.Made.{made_at, shown_at, unknown_at, inserted_at};
 
 // How the text of a token is made of the characters read.
-#[derive(Drop)]
+#[derive(Clone, Copy)]
 pub enum Text {
     Empty,
     AsRead,
@@ -17,7 +17,7 @@ pub enum Text {
 
 // How the value of a token is made: there is none, or it is that of an interpreted or of a raw
 // string.
-#[derive(Drop)]
+#[derive(Clone, Copy)]
 pub enum Value {
     Empty,
     Interpreted,
@@ -25,7 +25,7 @@ pub enum Value {
 }
 
 // A token that was read at a place.
-#[derive(Drop)]
+#[derive(Clone, Copy)]
 pub struct Lexed {
     // the place after it
     pub end: usize,

@@ -1,4 +1,6 @@
 // One token at a place: a rule for each first character.
+#![tactic(auto)]
+
 mod comments;
 mod lex;
 mod lexed;

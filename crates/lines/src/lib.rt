@@ -1,4 +1,6 @@
 // The line starts of characters that are read.
+#![tactic(auto)]
+
 mod count;
 mod step;
 

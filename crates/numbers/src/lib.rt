@@ -1,4 +1,6 @@
 // Numbers: decimal, binary, octal and hexadecimal integers, decimal floats, and imaginary ones.
+#![tactic(auto)]
+
 mod run;
 
 ghost use Rattle.std.specs.Prelude.{◌≡◌, ◌≤◌, drop, ◌&&◌, leb};
@@ -10,7 +12,7 @@ ghost use Rattle.numbers.specs.Steps.{ZeroAt};
 ghost use Rattle.kinds.specs.Kinds.{ILLEGAL};
 
 // How the text of a number differs from what was read.
-#[derive(Drop)]
+#[derive(Clone, Copy)]
 pub enum Spelling {
     AsRead,
     // the prefix's letter is written lower case
@@ -22,7 +24,7 @@ pub enum Spelling {
 }
 
 // A number: its kind, the place after it, its error or 0, and how its text is written.
-#[derive(Drop)]
+#[derive(Clone, Copy)]
 pub struct Number {
     pub kind: u8,
     pub end: usize,

@@ -6,7 +6,7 @@ ghost use Rattle.numbers.specs.Steps.{digits_at};
 
 // A run of digits and underscores: the place after it, and whether an underscore is misplaced where
 // it stopped.
-#[derive(Drop)]
+#[derive(Clone, Copy)]
 pub(crate) struct Digits {
     pub(crate) end: usize,
     pub(crate) misplaced: bool,

@@ -1,4 +1,6 @@
 // Opening a text.
+#![tactic(auto)]
+
 ghost use Rattle.std.specs.Prelude.{◌≡◌};
 ghost use Rattle.opening.specs.Opening.{begun_of, open_of, outcome_of, place_of};
 
@@ -6,7 +8,7 @@ use state::State;
 
 // The first state and the number of characters; or the number of the refusal, and for bytes that
 // are not UTF-8 the place of one that belongs to no well-formed character.
-#[derive(Drop)]
+#[derive(Clone, Copy)]
 pub enum Opened {
     Ready { state: State, chars: usize },
     NotUtf8 { place: usize },
@@ -15,7 +17,7 @@ pub enum Opened {
 
 // Opens a text of so many characters, and records the start of its first line.
 fn begin(chars: usize, base: usize, size: usize, table: &mut [usize]) -> Opened
-    ensures { record { table = table.exit.now; outcome = outcome_of result; place = place_of result } ≡ begun_of chars base size table.entry.now }
+    ensures { record { table = table.new; outcome = outcome_of result; place = place_of result } ≡ begun_of chars base size table.old }
 {
     if chars > size {
         return Opened::Refused(refusal::BAD_SIZE);
@@ -36,7 +38,7 @@ fn begin(chars: usize, base: usize, size: usize, table: &mut [usize]) -> Opened
 
 // Opens a source at a base, in a size, and records the start of its first line.
 pub fn open(src: &[u8], base: usize, size: usize, table: &mut [usize]) -> Opened
-    ensures { record { table = table.exit.now; outcome = outcome_of result; place = place_of result } ≡ open_of src.now base size table.entry.now }
+    ensures { record { table = table.new; outcome = outcome_of result; place = place_of result } ≡ open_of src.now base size table.old }
 {
     if src.len() > State::MAX_SOURCE {
         return Opened::Refused(refusal::TOO_LONG);

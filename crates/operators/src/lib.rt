@@ -1,11 +1,13 @@
 // Operators and delimiters: the longest one of the table of spellings.
+#![tactic(auto)]
+
 ghost use Rattle.std.specs.Prelude.{◌≡◌, drop};
 ghost use Rattle.utf8.specs.Chars.{chars};
 ghost use Rattle.operators.specs.Longest.{op, operator_of};
 ghost use Rattle.operators.specs.Steps.{switch2, switch3, switch4, less_by, greater_by, and_by, period_by};
 
 // An operator: its kind, and of how many characters it is.
-#[derive(Drop)]
+#[derive(Clone, Copy)]
 pub struct Operator {
     pub kind: u8,
     pub len: usize,

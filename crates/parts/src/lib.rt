@@ -1,4 +1,6 @@
 // A token, the parts of the source or of the text area that it shows, and the numbers that it is.
+#![tactic(auto)]
+
 mod layout;
 mod part;
 mod token;

@@ -3,7 +3,7 @@ ghost use Rattle.std.specs.Prelude.{◌≡◌};
 ghost use Rattle.parts.specs.Shown.{shown_in, shown_of};
 
 // The part of the text area, or of the source, that a text or a value is in.
-#[derive(Drop)]
+#[derive(Clone, Copy)]
 pub struct Part {
     pub area: bool,
     pub start: usize,

@@ -4,7 +4,7 @@ ghost use Rattle.parts.specs.Text.{text_shown, value_shown};
 
 use crate::part::{Part, shown};
 
-#[derive(Drop)]
+#[derive(Clone, Copy)]
 pub struct Token {
     pub kind: u8,
     // a semicolon that is not in the text

@@ -1,4 +1,6 @@
 // The positions of a text, and the table of the starts of its lines.
+#![tactic(auto)]
+
 ghost use Rattle.std.specs.Prelude.{◌≡◌};
 ghost use Rattle.position.specs.Lines.{line_of};
 ghost use Rattle.position.specs.Place.{in_range, fitting};
@@ -7,7 +9,7 @@ ghost use Rattle.position.specs.Queries.{pos_of, position_of, line_start_of};
 ghost use Rattle.position.specs.Adding.{add_line};
 
 // A text's place among positions, and how many line starts its table holds.
-#[derive(Drop)]
+#[derive(Clone, Copy)]
 pub struct File {
     pub base: usize,
     pub size: usize,
@@ -15,7 +17,7 @@ pub struct File {
 }
 
 // A place in a text: its offset in characters, line and column from 1.
-#[derive(Drop)]
+#[derive(Clone, Copy)]
 pub struct Position {
     pub offset: usize,
     pub line: usize,
@@ -23,21 +25,21 @@ pub struct Position {
 }
 
 // A line of a text: its number, from 1, and the offset at which it starts.
-#[derive(Drop)]
+#[derive(Clone, Copy)]
 pub struct Line {
     pub number: usize,
     pub start: usize,
 }
 
 // What a call gives, or the number of the refusal.
-#[derive(Drop)]
+#[derive(Clone, Copy)]
 pub enum Answer {
     Gave(usize),
     Refused(u8),
 }
 
 // Where a position is, or the number of the refusal.
-#[derive(Drop)]
+#[derive(Clone, Copy)]
 pub enum Located {
     At(Position),
     Refused(u8),
@@ -152,7 +154,7 @@ impl File {
     // The number of lines after a line start was read: it is recorded if it is above the last one
     // and below the size.
     pub fn add_line(self, table: &mut [usize], offset: usize) -> Answer
-        ensures { record { table = table.exit.now; outcome = answer_outcome result } ≡ add_line self table.entry.now offset }
+        ensures { record { table = table.new; outcome = answer_outcome result } ≡ add_line self table.old offset }
     {
         let lines = self.lines;
         if !self.fits(table) {

@@ -9,7 +9,7 @@ use crate::whole::{Whole, added, scaled};
 
 // The digits of a number without the zeros that end it, and how many zeros those are; or that 64
 // bits do not hold these digits.
-#[derive(Drop)]
+#[derive(Clone, Copy)]
 pub(crate) enum Figures {
     Short { m: u64, zeros: u64 },
     Long,

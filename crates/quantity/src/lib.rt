@@ -1,4 +1,6 @@
 // The number that the text of a literal denotes: m and k with the value m / 10^k.
+#![tactic(auto)]
+
 mod figures;
 mod parts;
 mod whole;
@@ -15,14 +17,14 @@ pub use whole::{Base, Whole, whole_number};
 use whole::{MOST, added, scaled};
 
 // The number m / 10^k.
-#[derive(Drop)]
+#[derive(Clone, Copy)]
 pub struct Quantity {
     pub m: u64,
     pub k: u8,
 }
 
 // A quantity, or the number of the refusal.
-#[derive(Drop)]
+#[derive(Clone, Copy)]
 pub enum Answer {
     Gave(Quantity),
     Refused(u8),

@@ -7,7 +7,7 @@ ghost use Rattle.quantity.specs.Figures.{most64};
 use crate::figures::{Figures, read_figures};
 
 // The base of a number.
-#[derive(Drop)]
+#[derive(Clone, Copy)]
 pub enum Base {
     Binary,
     Octal,
@@ -16,7 +16,7 @@ pub enum Base {
 }
 
 // A whole number, or that 64 bits do not hold it.
-#[derive(Drop)]
+#[derive(Clone, Copy)]
 pub enum Whole {
     Fits(u64),
     Over,

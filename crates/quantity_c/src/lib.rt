@@ -1,6 +1,8 @@
 // The number behind the token that the first ten numbers of a slice are, for programs in C.
 // It answers m and k, and the number of its refusal, or 0. A slice that is too short for a token or
 // an answer is refused by 6, and nothing is written.
+#![tactic(auto)]
+
 ghost use Rattle.std.specs.Prelude.{◌≡◌, ◌≤◌, length};
 ghost use Rattle.std.proofs.lemmas.List.Edits.{sets};
 ghost use Rattle.parts.specs.Layout.{token_width, text_at, part_in};

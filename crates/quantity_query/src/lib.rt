@@ -1,4 +1,6 @@
 // The number behind a token that is an INT or a FLOAT.
+#![tactic(auto)]
+
 ghost use Rattle.std.specs.Prelude.{◌≡◌, length};
 ghost use Rattle.utf8.specs.Chars.{chars};
 ghost use Rattle.numbers.specs.Number.{number};

@@ -1,1 +1,2 @@
 // The texts of numbers that scans give: what is proved of them; no code.
+#![tactic(auto)]

@@ -1,4 +1,6 @@
 // Questions about a text that is being scanned.
+#![tactic(auto)]
+
 ghost use Rattle.std.specs.Prelude.{◌≡◌};
 ghost use Rattle.position.specs.Answers.{answer_outcome, located};
 ghost use Rattle.errors.specs.Answers.{got};

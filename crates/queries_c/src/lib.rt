@@ -1,4 +1,6 @@
 // Opening a source and questions about it, for programs in C: numbers and slices alone.
+#![tactic(auto)]
+
 mod layout;
 mod open;
 mod questions;

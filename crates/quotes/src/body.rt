@@ -12,7 +12,7 @@ use escapes::{Given, escape_at};
 
 // A piece of the body: an escape, a character, or a run of characters that are written as
 // themselves.
-#[derive(Drop)]
+#[derive(Clone, Copy)]
 struct Piece {
     // how many characters were read, how many the literal has by them, and the code of the first
     chars: usize,

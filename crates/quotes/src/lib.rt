@@ -1,10 +1,12 @@
 // Quoted literals: the bodies of character literals and double-quoted strings.
+#![tactic(auto)]
+
 mod body;
 
 pub use body::{char_body, plain_string, string_body};
 
 // The body of a quoted literal, from after its opening quote.
-#[derive(Drop)]
+#[derive(Clone, Copy)]
 pub struct Quoted {
     // the place where it ends, and how many characters were read
     pub end: usize,

@@ -1,12 +1,14 @@
 // A thin reader: it holds the source and a place in it, and gives the next character. The functions
 // over the struct are thin; the work is done by functions that take the source itself.
+#![tactic(auto)]
+
 ghost use Rattle.std.specs.Prelude.{◌≡◌};
 ghost use Rattle.utf8.specs.Chars.{char_at};
 ghost use Rattle.reader.specs.Read.{read_place};
 
 use utf8::Char;
 
-#[derive(Drop)]
+#[derive(Clone, Copy)]
 pub struct Reader<'a> {
     pub src: &'a [u8],
     pub place: usize,

@@ -1,1 +1,2 @@
 // How far a text has been read: definitions and their laws, no code.
+#![tactic(auto)]

@@ -1,4 +1,6 @@
 // The numbers of the refusals, and the test for slices that are too short.
+#![tactic(auto)]
+
 mod short;
 
 pub use short::too_short;

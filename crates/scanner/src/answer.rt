@@ -11,7 +11,7 @@ use state::State;
 
 // The refusal, or 0; the state after the scan; the token. A scan that is refused leaves the state
 // as it was, and gives no token.
-#[derive(Drop)]
+#[derive(Clone, Copy)]
 pub struct Scanned {
     pub refusal: u8,
     pub state: State,

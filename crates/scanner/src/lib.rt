@@ -1,4 +1,6 @@
 // The scanner: opening a text, one scan, and questions about it.
+#![tactic(auto)]
+
 mod answer;
 mod quick;
 mod scanning;

@@ -13,7 +13,7 @@ use position::Line;
 use state::State;
 
 // Whether a scan is done; if so, the state after it and the token.
-#[derive(Drop)]
+#[derive(Clone, Copy)]
 pub(crate) struct Tried {
     pub(crate) done: bool,
     pub(crate) state: State,

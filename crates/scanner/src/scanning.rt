@@ -155,9 +155,9 @@ fn write_token(
     area: &mut [u8],
 ) -> State
     requires { Ready src.now state start x read starts table.old list.old area.old }
-    ensures { (record { table = table.exit.now; list = list.new; area = area.new }
-        ≡ left_of src.now state start x read starts table.entry.now list.old area.old)
-        × (result ≡ state_by x (state.offset + read) starts state table.exit.now) }
+    ensures { (record { table = table.new; list = list.new; area = area.new }
+        ≡ left_of src.now state start x read starts table.old list.old area.old)
+        × (result ≡ state_by x (state.offset + read) starts state table.new) }
 {
     record_starts(src, state, read, starts, table);
     let after = state_after(x, state.offset + read, starts, state, table);
@@ -179,8 +179,8 @@ fn commit(
     area: &mut [u8],
 ) -> Scanned
     requires { Ready src.now state start x read starts table.old list.old area.old }
-    ensures { record { table = table.exit.now; list = list.new; area = area.new; answer = result }
-        ≡ commit_of src.now state start x read starts table.entry.now list.old area.old }
+    ensures { record { table = table.new; list = list.new; area = area.new; answer = result }
+        ≡ commit_of src.now state start x read starts table.old list.old area.old }
 {
     let token = token_of(x, start, position_at(state, start));
     let after = write_token(src, state, start, x, read, starts, table, list, area);
@@ -200,8 +200,8 @@ fn finish(
     area: &mut [u8],
 ) -> Scanned
     requires { Known src.now state table.old list.old blanks x read }
-    ensures { record { table = table.exit.now; list = list.new; area = area.new; answer = result }
-        ≡ scan_of src.now state table.entry.now list.old area.old }
+    ensures { record { table = table.new; list = list.new; area = area.new; answer = result }
+        ≡ scan_of src.now state table.old list.old area.old }
 {
     let offset = state.offset + read;
     let room = errors::room(list);
@@ -231,8 +231,8 @@ fn scan_next(
     area: &mut [u8],
 ) -> Scanned
     requires { fits state src.now table.old list.old ≡ true }
-    ensures { record { table = table.exit.now; list = list.new; area = area.new; answer = result }
-        ≡ scan_of src.now state table.entry.now list.old area.old }
+    ensures { record { table = table.new; list = list.new; area = area.new; answer = result }
+        ≡ scan_of src.now state table.old list.old area.old }
 {
     let blanks = blanks::skip_blanks(src, state.place, state.mark);
     let x = lexer::lex_token(src, blanks.end, state.mark);
@@ -252,8 +252,8 @@ pub fn scan(
     list: &mut [usize],
     area: &mut [u8],
 ) -> Scanned
-    ensures { record { table = table.exit.now; list = list.new; area = area.new; answer = result }
-        ≡ scan_of src.now state table.entry.now list.old area.old }
+    ensures { record { table = table.new; list = list.new; area = area.new; answer = result }
+        ≡ scan_of src.now state table.old list.old area.old }
 {
     if !state.fits(src, table, list) {
         return refused(refusal::DOES_NOT_FIT, state);

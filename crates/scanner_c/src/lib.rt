@@ -1,5 +1,7 @@
 // One scan for programs in C: numbers and slices alone. A crate of its own, and so compiled apart
 // from many scans: the compiler inlines the scan where it is called from one place alone.
+#![tactic(auto)]
+
 mod calls;
 
 pub use calls::scanner_scan;

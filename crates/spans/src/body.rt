@@ -10,7 +10,7 @@ use crate::plain;
 
 // What is read of a body: where it ends, how many characters it has, whether its closing was read,
 // and how many of its characters are LFs, CRs and stray bytes.
-#[derive(Drop)]
+#[derive(Clone, Copy)]
 pub struct Body {
     pub end: usize,
     pub chars: usize,

@@ -1,5 +1,7 @@
 // Bodies that may hold line feeds: those of raw strings and comments; and whether a comment ends
 // its line.
+#![tactic(auto)]
+
 mod body;
 mod line;
 mod plain;

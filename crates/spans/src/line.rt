@@ -7,7 +7,7 @@ ghost use Rattle.spans.specs.Steps.{stop_from};
 
 // Where and how the search for a comment's end stopped: closed before a place, or at the end of its
 // line or of the source.
-#[derive(Drop)]
+#[derive(Clone, Copy)]
 pub(crate) enum Stop {
     Closed(usize),
     End { lf: bool },

@@ -1,5 +1,7 @@
 // The state of a scan, whether it goes together with what a call is lent, and the numbers that it
 // is.
+#![tactic(auto)]
+
 mod layout;
 mod state;
 

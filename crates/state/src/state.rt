@@ -5,7 +5,7 @@ ghost use Rattle.state.specs.State.{fresh, advance};
 
 use position::Line;
 
-#[derive(Drop)]
+#[derive(Clone, Copy)]
 pub struct State {
     // positions are base to base + size
     pub base: usize,

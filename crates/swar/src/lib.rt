@@ -1,4 +1,6 @@
 // Eight bytes of a text as one number, the first byte lowest.
+#![tactic(auto)]
+
 ghost use Rattle.std.specs.Prelude.{◌≡◌, ◌+◌, ◌*◌, ◌≤◌, leb, length, take, drop};
 ghost use Rattle.swar.specs.Number.{number_of};
 

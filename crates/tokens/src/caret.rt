@@ -4,7 +4,7 @@ use crate::output::Buffer;
 
 // How far the way to the caret has come: how many bytes of output wait, and the columns that are
 // left.
-#[derive(Drop)]
+#[derive(Clone, Copy)]
 struct Reached {
     waiting: usize,
     left: usize,

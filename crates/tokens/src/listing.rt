@@ -14,7 +14,7 @@ const MOST_BYTES: usize = 65_536;
 const MOST_SCANS: usize = 131_073;
 
 // How far a listing has come.
-#[derive(Drop)]
+#[derive(Clone, Copy)]
 struct Progress {
     state: State,
     // how many bytes of output wait

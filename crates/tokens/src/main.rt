@@ -1,6 +1,8 @@
 // Lists the tokens of what it reads from standard input, then the errors and the count of lines. A
 // refusal ends the listing. The listing is in numbers, or with the argument `--names` one for
 // people.
+#![tactic(auto)]
+
 mod caret;
 mod listing;
 mod output;

@@ -1,4 +1,6 @@
 // UTF-8 by RFC 3629: the character at a place of a text.
+#![tactic(auto)]
+
 mod sequence;
 
 ghost use Rattle.std.specs.Prelude.{◌≡◌};
@@ -7,7 +9,7 @@ ghost use Rattle.utf8.specs.Chars.{char_at, is_stray};
 pub use sequence::{byte, sequence_len};
 
 // A character: its code and the number of bytes that it is written in.
-#[derive(Drop)]
+#[derive(Clone, Copy)]
 pub struct Char {
     pub code: u32,
     pub width: usize,

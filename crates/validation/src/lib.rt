@@ -1,4 +1,6 @@
 // The check of a text: is it UTF-8 by RFC 3629?
+#![tactic(auto)]
+
 mod ascii;
 
 ghost use Rattle.std.specs.Prelude.{◌≡◌};
@@ -6,7 +8,7 @@ ghost use Rattle.validation.specs.Answers.{checking_of, checked_of};
 
 // A text that was checked: how many characters it has, or the place of a byte that belongs to no
 // well-formed character.
-#[derive(Drop)]
+#[derive(Clone, Copy)]
 pub enum Checked {
     Valid(usize),
     Bad(usize),

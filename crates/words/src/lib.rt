@@ -1,4 +1,6 @@
 // Words: identifiers and keywords.
+#![tactic(auto)]
+
 ghost use Rattle.std.specs.Prelude.{◌≡◌, ◌+◌, min, drop};
 ghost use Rattle.swar.specs.Lanes.{lanes};
 ghost use Rattle.utf8.specs.Chars.{chars};
@@ -66,7 +68,7 @@ pub fn word_end(src: &[u8], at: usize) -> usize
 
 // The run of letters and digits at a place, as far as eight bytes go: its length, and the number
 // that its bytes are.
-#[derive(Drop)]
+#[derive(Clone, Copy)]
 pub struct Near {
     pub len: usize,
     pub number: u64,

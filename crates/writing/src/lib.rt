@@ -1,5 +1,7 @@
 // Writing texts and values to an area, from a place on. Bytes that would come after the area's end
 // are not written.
+#![tactic(auto)]
+
 mod chars;
 mod number;
 mod put;

@@ -1,0 +1,18 @@
+-- `literal::digits_end` meets its contract. The loop's invariant: each byte passed is a decimal digit.
+use Prim.Native.Nat.{ℕ, ◌-◌, ◌≤◌, ◌<◌}
+use mathlib.Core.Path.{◌≡◌, sym, subst, ◌∙◌}
+use mathlib.Core.Bool.{true}
+use native.Mathlib.Omega.{arith}
+use native.Mathlib.Decide.{dec_lt}
+use lib.ListN.{get_or}
+use borrow.Author.Rules.{rules}
+use Rattle.digits.specs.Digit.{is_decimal}
+use Rattle.batch.specs.Simple.{first_kind}
+use Rattle.batch.proofs.SimpleTokens.{digit_first, no_digit}
+use Rattle.batch.proofs.literal.digits_end.Given as goal
+
+abbrev pub invariant-loop-end : goal.invariant-loop-end
+invariant-loop-end l = (l.at ≤ l.end) × (l.end ≤ l.safe) × ((p : ℕ) → l.at ≤ p → p < l.end → is_decimal (get_or l.src p 0) ≡ true)
+
+abbrev pub decreases-loop-end : goal.decreases-loop-end
+decreases-loop-end l = l.safe - l.end

@@ -1,0 +1,17 @@
+-- `simple::semicolon` meets its contract: before a line feed a semicolon is inserted, whatever the mark.
+use mathlib.Core.Bool.{true, false}
+use mathlib.Core.Path.{refl, ◌∙◌}
+use native.Mathlib.Nat.{add-zero}
+use native.Mathlib.Omega.{arith}
+use borrow.Author.Rules.{rules}
+use Rattle.kinds.specs.Kinds.{SEMICOLON}
+use Rattle.lexer.specs.declared.lexed.Text.TheVariants.{Empty}
+use Rattle.batch.proofs.SimpleTokens.{feed_read}
+use Rattle.batch.proofs.Giving.{gives_plain}
+use Rattle.batch.proofs.simple.semicolon.Goals as goal
+
+pub returns : goal.returns
+returns c =
+    let a = c.args in
+    gives_plain a.src.now a.at a.safe a.position a.tokens.now a.to SEMICOLON a.at true false Empty 0
+    (λ m. feed_read a.src.now a.at m c.requires.1) refl refl (omega (arith, c.requires.0)) refl (c.put_shown.ensures ∙ rw (add-zero a.at))

@@ -1,0 +1,16 @@
+-- `blanks::is_space` meets its contract: the tests that led to each return.
+use borrow.Author.Tests.{eq-eqb, ne_eqb}
+use Rattle.blanks.specs.Blank.{is_space}
+use Rattle.blanks.proofs.is_space.Goals as goal
+
+pub returns-then-b-eq32 : goal.returns-then-b-eq32
+unfolding is_space
+returns-then-b-eq32 c = simp (eq-eqb _ _ c.if-b-eq32.true)
+
+pub returns-then-b-eq9 : goal.returns-then-b-eq9
+unfolding is_space
+returns-then-b-eq9 c = simp (ne_eqb _ _ c.if-b-eq32.false, eq-eqb _ _ c.if-b-eq9.true)
+
+pub returns : goal.returns
+unfolding is_space
+returns c = simp (ne_eqb _ _ c.if-b-eq32.false, ne_eqb _ _ c.if-b-eq9.false)

@@ -1,0 +1,64 @@
+use Prim.Native.Nat.{ℕ, ◌-◌, ◌/◌, ◌^◌, ◌≤◌}
+use mathlib.Core.Path.{◌≡◌, sym, ap, ◌∙◌}
+use mathlib.Core.Bool.{Bool, not}
+use mathlib.Core.Logic.{⊎_elim}
+use native.Mathlib.Omega.{arith}
+use borrow.Author.Rules.{rules}
+use borrow.Author.Tests.{not-true, not-false, eq-eqb, ne_eqb}
+use lib.Bits.{bit_and}
+use lib.Dec.{eqb}
+use lib.ListN.{length, get_or, drop}
+use Rattle.utf8.specs.Chars.{chars}
+use Rattle.blanks.specs.Blank.{is_blank, skip, skipped_at}
+use Rattle.blanks.proofs.Blanks.{joined, joined_start, blank_above, bits, bits_say, step_end, step_none, step_space, step_feed}
+use Rattle.blanks.proofs.skip_bytes.Goals as goal
+use Rattle.blanks.proofs.skip_bytes.Goals.{Else-b-gt32, Joined-mark, else-mark, then-mark}
+
+pub loop-p-init : goal.loop-p-init
+loop-p-init c =
+    let a = c.args in
+    (omega arith, joined_start a.at (skip a.mark (chars (drop a.at a.src.now))))
+
+pub returns-then-b-gt32 : goal.returns-then-b-gt32
+returns-then-b-gt32 c =
+    let a = c.args in
+    sym (c.loop-p.invariant.1 ∙ step_none a.mark a.src.now c.loop-p.p c.loop-p.lfs c.loop-p.line (blank_above a.mark _ c.if-b-gt32.true))
+
+-- the number whose bits are tested
+number : (c : Joined-mark) → c.if-mark.blanks ≡ bits c.args.mark
+number c = elim c.if-mark.branch [ then-mark w ↦ rw (w.1, w.if-mark.true) | else-mark w ↦ rw (w.1, w.if-mark.false) ]
+
+-- and the bit that was tested says whether the byte is blank
+module _ (c : Else-b-gt32) where
+  abbrev mark : Bool
+  mark = c.args.mark
+
+  abbrev byte : ℕ
+  byte = get_or c.args.src.now c.loop-p.p 0
+
+  bit : eqb (bit_and (c.if-mark.blanks / 2 ^ byte) 1) 0 ≡ not (is_blank mark byte)
+  bit = ap (λ x. eqb (bit_and (x / 2 ^ byte) 1) 0) (number c.before.before.before.before.before) ∙ bits_say mark byte (omega arith)
+
+pub returns-then-blanks-b-eq0 : goal.returns-then-blanks-b-eq0
+returns-then-blanks-b-eq0 c =
+    let a = c.args in
+    sym (c.loop-p.invariant.1 ∙ step_none a.mark a.src.now c.loop-p.p c.loop-p.lfs c.loop-p.line (not-true _ (sym (bit (goal.at.returns-then-blanks-b-eq0 c).Else-b-gt32) ∙ eq-eqb _ _ c.if-blanks-b-eq0.true)))
+
+pub loop-p-preserved-then-b-eq10 : goal.loop-p-preserved-then-b-eq10
+loop-p-preserved-then-b-eq10 c =
+    let a = c.args in (
+      omega arith,
+      c.loop-p.invariant.1 ∙ step_feed a.mark a.src.now c.loop-p.p c.loop-p.lfs c.loop-p.line (not-false _ (sym (bit (goal.at.loop-p-preserved-then-b-eq10 c).Else-b-gt32) ∙ ne_eqb _ _ c.if-blanks-b-eq0.false)) c.if-b-eq10.true,
+    )
+
+pub loop-p-preserved : goal.loop-p-preserved
+loop-p-preserved c =
+    let a = c.args in (
+      omega arith,
+      c.loop-p.invariant.1 ∙ step_space a.mark a.src.now c.loop-p.p c.loop-p.lfs c.loop-p.line (not-false _ (sym (bit (goal.at.loop-p-preserved c).Else-b-gt32) ∙ ne_eqb _ _ c.if-blanks-b-eq0.false)) c.if-b-eq10.false,
+    )
+
+pub returns : goal.returns
+returns c =
+    let a = c.args in
+    sym (c.loop-p.invariant.1 ∙ step_end a.mark a.src.now c.loop-p.p c.loop-p.lfs c.loop-p.line c.loop-p-test.false)

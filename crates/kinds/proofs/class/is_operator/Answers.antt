@@ -1,0 +1,16 @@
+-- The kinds of the class are those from ADD to COLON: at all 256 numbers by computation.
+use Prim.Native.Nat.{ℕ, ◌<◌}
+use mathlib.Core.Path.{◌≡◌, sym, ◌∙◌}
+use borrow.Author.Rules.{rules}
+use Rattle.basics.specs.Between.{between}
+use Rattle.kinds.specs.Kinds.{ADD, COLON}
+use Rattle.kinds.specs.Table.{is_operator, row_of, table, specials, operators, keywords}
+use Rattle.kinds.proofs.Ranges.{same_tests}
+use Rattle.kinds.proofs.class.is_operator.Goals as goal
+
+range : (k : ℕ) → k < 256 → is_operator k ≡ between ADD k COLON
+unfolding row_of table specials operators keywords
+range k h = same_tests is_operator (λ m. between ADD m COLON) tt k h
+
+pub returns : goal.returns
+returns c = c.is_between.ensures ∙ sym (range _ (search rules))

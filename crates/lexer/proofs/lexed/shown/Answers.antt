@@ -1,0 +1,6 @@
+-- `lexer::lexed::shown` meets its contract.
+use borrow.Author.Rules.{rules}
+use Rattle.lexer.proofs.lexed.shown.Goals as goal
+
+pub returns : goal.returns
+returns c = rw c.made-x.ensures

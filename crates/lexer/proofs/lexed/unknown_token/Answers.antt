@@ -1,0 +1,6 @@
+-- `lexer::lexed::unknown_token` meets its contract.
+use borrow.Author.Rules.{rules}
+use Rattle.lexer.proofs.lexed.unknown_token.Goals as goal
+
+pub returns : goal.returns
+returns c = rw c.shown-x.ensures

@@ -1,0 +1,6 @@
+-- `lexer::quoted::literal` meets its contract: by what `made` gives.
+use borrow.Author.Rules.{rules}
+use Rattle.lexer.proofs.quoted.literal.Goals as goal
+
+pub returns : goal.returns
+returns c = rw c.made-x.ensures

@@ -1,0 +1,64 @@
+-- `numbers::scan_zero` meets its contract: each arm is a case of the definition.
+use Prim.Native.Nat.{ℕ, ◌+◌, ◌<◌}
+use Prim.Native.Char.{code}
+use mathlib.Core.Path.{◌≡◌, refl, sym, ap, ◌∙◌}
+use native.Mathlib.Omega.{arith}
+use lib.Dec.{lit<}
+use lib.ListN.{drop}
+use borrow.Author.Tests.{ne_eqb}
+use Rattle.basics.proofs.Lists.{reach}
+use Rattle.utf8.specs.Chars.{chars}
+use Rattle.errors.specs.Numbers.{BAD_BINARY, BAD_OCTAL, BAD_HEXADECIMAL}
+use Rattle.numbers.specs.declared.Spelling.{Spelling}
+use Rattle.numbers.specs.declared.Spelling.TheVariants.{AsRead, LowerPrefix}
+use Rattle.numbers.specs.Number.{after_chars, prefixed, zero_by, leading_zero, number_at}
+use Rattle.numbers.proofs.Numerals.{zero_is, zero_prefix}
+use borrow.Author.Rules.{rules}
+use Rattle.numbers.proofs.scan_zero.Goals as goal
+use Rattle.numbers.proofs.scan_zero.Goals.{After-byte-b}
+
+pub overflow_add-at : goal.overflow_add-at
+overflow_add-at c = let a = c.args in omega (arith, reach a.src.now a.at (omega (arith, c.requires)))
+
+pub overflow_add-p : goal.overflow_add-p
+overflow_add-p c =
+    omega (arith, reach c.args.src.now c.args.at (omega (arith, c.requires)))
+
+-- the byte after the 0 is a prefix's letter x
+with_prefix : (c : After-byte-b) (x : ℕ) → c.byte-b.result ≡ x → 0 < x → x < 0x80 → (base error : ℕ) (sp : Spelling)
+    → let a = c.args in
+    let r = chars (drop a.at a.src.now) in
+    zero_by x r ≡ after_chars 2 (prefixed base error sp (drop 2 r))
+    → number_at (a.at + 2) (prefixed base error sp (chars (drop (a.at + 2) a.src.now))) ≡ number_at a.at (leading_zero r)
+with_prefix c x e l h base error sp z =
+    let a = c.args in
+    let y = sym c.byte-b.ensures ∙ e in
+    let zero = c.requires in
+    sym (ap (number_at a.at) (zero_is a.src.now a.at zero ∙ ap (λ b. zero_by b (chars (drop a.at a.src.now))) y ∙ z)
+    ∙ zero_prefix a.src.now a.at zero x y l h base error sp)
+
+pub returns-in-120 : goal.returns-in-120
+returns-in-120 c = c.scan_prefixed.ensures ∙ with_prefix (goal.at.returns-in-120 c).After-byte-b (code "x") c.in-120.is (lit< tt) (lit< tt) 16 BAD_HEXADECIMAL AsRead refl
+
+pub returns-in-88 : goal.returns-in-88
+returns-in-88 c = c.scan_prefixed-in-88.ensures ∙ with_prefix (goal.at.returns-in-88 c).After-byte-b (code "X") c.in-88.is (lit< tt) (lit< tt) 16 BAD_HEXADECIMAL LowerPrefix refl
+
+pub returns-in-111 : goal.returns-in-111
+returns-in-111 c = c.scan_prefixed-in-111.ensures ∙ with_prefix (goal.at.returns-in-111 c).After-byte-b (code "o") c.in-111.is (lit< tt) (lit< tt) 8 BAD_OCTAL AsRead refl
+
+pub returns-in-79 : goal.returns-in-79
+returns-in-79 c = c.scan_prefixed-in-79.ensures ∙ with_prefix (goal.at.returns-in-79 c).After-byte-b (code "O") c.in-79.is (lit< tt) (lit< tt) 8 BAD_OCTAL LowerPrefix refl
+
+pub returns-in-98 : goal.returns-in-98
+returns-in-98 c = c.scan_prefixed-in-98.ensures ∙ with_prefix (goal.at.returns-in-98 c).After-byte-b (code "b") c.in-98.is (lit< tt) (lit< tt) 2 BAD_BINARY AsRead refl
+
+pub returns-in-66 : goal.returns-in-66
+returns-in-66 c = c.scan_prefixed-in-66.ensures ∙ with_prefix (goal.at.returns-in-66 c).After-byte-b (code "B") c.in-66.is (lit< tt) (lit< tt) 2 BAD_BINARY LowerPrefix refl
+
+pub returns-in_default : goal.returns-in_default
+returns-in_default c =
+    let a = c.args in
+    let y = c.byte-b.ensures in
+    let no = c.in_default in
+    c.scan_bare_zero.ensures
+    ∙ sym (ap (number_at a.at) (zero_is a.src.now a.at c.requires ∙ rw (← y, ne_eqb _ _ no.rest.0.0.0.0.0.1, ne_eqb _ _ no.rest.0.0.0.0.1, ne_eqb _ _ no.rest.0.0.0.1, ne_eqb _ _ no.rest.0.0.1, ne_eqb _ _ no.rest.0.1, ne_eqb _ _ no.rest.1)))

@@ -1,0 +1,15 @@
+-- `numbers::starts_number` meets its contract: a digit, or a point before one.
+use Prim.Native.Char.{code}
+use mathlib.Core.Path.{sym, ◌∙◌}
+use borrow.Author.Tests.{eq-eqb, ne_eqb}
+use borrow.Author.Rules.{rules}
+use Rattle.numbers.proofs.starts_number.Goals as goal
+
+pub returns-then-is_decimal : goal.returns-then-is_decimal
+returns-then-is_decimal c = rw (sym c.is_decimal.ensures ∙ c.if-is_decimal.true)
+
+pub returns-then-first-eq46 : goal.returns-then-first-eq46
+returns-then-first-eq46 c = rw (sym c.is_decimal.ensures ∙ c.if-is_decimal.false, eq-eqb _ (code ".") c.if-first-eq46.true) c.is_decimal-then-first-eq46.ensures
+
+pub returns : goal.returns
+returns c = rw (sym c.is_decimal.ensures ∙ c.if-is_decimal.false, ne_eqb _ (code ".") c.if-first-eq46.false)

@@ -1,0 +1,86 @@
+use Prim.Native.Nat.{ℕ, ◌+◌, ◌-◌, ◌*◌, ◌%◌, ◌^◌, ◌≤◌}
+use mathlib.Core.Path.{◌≡◌, refl, sym, ap, ◌∙◌}
+use mathlib.Core.Logic.{◌≢◌, inl, inr}
+use native.Mathlib.Omega.{arith}
+use native.Mathlib.Nat.{zero-mul}
+use borrow.Author.Rules.{rules}
+use lib.ListN.{length, drop, get_or}
+use Rattle.digits.specs.Digit.{digit_val}
+use Rattle.quantity.specs.Text.{digits_from, digits_of}
+use Rattle.quantity.specs.Figures.{Bare}
+use Rattle.quantity.proofs.Capped.{fits_is, over_is, bare_some}
+use Rattle.quantity.proofs.Texts.{digits_end, digits_other, digit_zero, digit_some, too_long}
+use Rattle.quantity.proofs.figures.read_figures.Goals as goal
+use Rattle.quantity.proofs.figures.read_figures.Goals.{At-loop-p, Else-d-eq0}
+
+pub loop-p-init : goal.loop-p-init
+loop-p-init c =
+    let a = c.args in
+    (omega arith, omega arith, inl refl, ap (λ n. digits_from a.base n a.text.now) (sym (zero-mul (a.base ^ 0))))
+
+-- no digit of the base
+pub loop-p-preserved-then-base-d : goal.loop-p-preserved-then-base-d
+loop-p-preserved-then-base-d c =
+    let a = c.args in
+    let high : a.base ≤ digit_val (get_or a.text.now c.loop-p.p 0) = rw c.digit-d.ensures at c.if-base-d.true in (
+      omega arith,
+      omega arith,
+      c.loop-p.invariant.2,
+      c.loop-p.invariant.3 ∙ digits_other a.base a.text.now c.loop-p.p _ c.loop-p-test.true high,
+    )
+
+-- a zero
+pub loop-p-preserved-then-d-eq0 : goal.loop-p-preserved-then-d-eq0
+loop-p-preserved-then-d-eq0 c =
+    let a = c.args in
+    let d = c.digit-d in (
+      omega arith,
+      omega arith,
+      c.loop-p.invariant.2,
+      c.loop-p.invariant.3
+          ∙ digit_zero a.base c.requires.0 a.text.now c.loop-p.p c.loop-p.m c.loop-p.zeros d.result c.loop-p-test.true d.ensures
+          c.if-base-d.false c.if-d-eq0.true,
+    )
+
+pub appended-requires : goal.appended-requires
+appended-requires c = c.requires
+
+-- ---- another digit
+module _ (e : Else-d-eq0) where
+  abbrev at : At-loop-p
+  at = e.before.before.before.before.before
+
+  abbrev more : ℕ
+  more = e.before.before.digit.result + at.loop.m * at.before.before.args.base ^ (at.loop.zeros + 1)
+
+  -- the number with the digit, and that it does not end in a zero
+  more_is : digits_of at.before.before.args.base at.before.before.args.text.now
+      ≡ digits_from at.before.before.args.base (more * at.before.before.args.base ^ 0) (drop (at.loop.p + 1) at.before.before.args.text.now)
+  more_is =
+      let g = e.before.before in
+      let a = at.before.before.args in
+      at.loop.inv.3
+      ∙ digit_some a.base at.before.before.pre.0 a.text.now at.loop.p at.loop.m at.loop.zeros g.digit.result g.before.before.loop-test.taken g.digit.ensures
+      e.before.if1.left
+
+  more_bare : more % at.before.before.args.base ≢ 0
+  more_bare =
+      bare_some at.before.before.args.base at.before.before.pre.0 at.loop.m at.loop.zeros e.before.before.digit.result e.before.if1.left e.if2.left
+
+-- the number is too long
+pub returns-in_default : goal.returns-in_default
+returns-in_default c =
+    let a = (at c.before.before.before).before.before.args in
+    rw (more_is c.before.before.before)
+    (too_long a.base (at c.before.before.before).before.before.requires.0 (drop ((at c.before.before.before).loop.p + 1) a.text.now) (more c.before.before.before) 0 (more_bare c.before.before.before)
+    (over_is (more c.before.before.before) (sym c.in_default.is ∙ c.appended.ensures)))
+
+pub loop-p-preserved : goal.loop-p-preserved
+loop-p-preserved c =
+    let is = fits_is _ (more c.before.before.before.before) (sym c.in-Fits.is ∙ c.appended.ensures) in
+    (omega arith, omega arith, rw is (inr (more_bare c.before.before.before.before)), rw is (more_is c.before.before.before.before))
+
+pub returns : goal.returns
+returns c =
+    let a = c.args in
+    (c.loop-p.invariant.3 ∙ digits_end a.base a.text.now c.loop-p.p _ c.loop-p-test.false, c.loop-p.invariant.2, omega arith)

@@ -1,0 +1,48 @@
+-- `scanner_number` meets its contract: past the test of lengths the token in the numbers is asked for its number.
+use Prim.Native.Nat.{◌≤◌}
+use mathlib.Core.Path.{◌≡◌, sym, ◌∙◌}
+use lib.ListN.{length}
+use native.Mathlib.Omega.{arith}
+use borrow.Author.Rules.{rules}
+use Rattle.refusal.proofs.Lengths.{long_enough}
+use Rattle.parts.specs.Layout.{token_width}
+use Rattle.quantity.specs.Pair.{answer_outcome}
+use Rattle.refusal.specs.Asked.{answered_by}
+use Rattle.quantity_c.specs.Number.{quantity_numbers, number_numbers}
+use Rattle.quantity_c.proofs.Kind.{kind_asked}
+use Rattle.quantity_c.proofs.scanner_number.Goals as goal
+use Rattle.quantity_c.proofs.scanner_number.Goals.{After-number-given, Else-too_short}
+
+-- the slices are long enough
+long : (c : Else-too_short) → (token_width ≤ length c.args.token.now) × (2 ≤ length c.args.answer.now)
+long c = long_enough _ _ _ _ c.too_short.ensures c.if-too_short.false
+
+pub returns-then-too_short : goal.returns-then-too_short
+unfolding number_numbers
+returns-then-too_short c = rw (sym c.too_short.ensures ∙ c.if-too_short.true)
+
+pub bounds-token-0 : goal.bounds-token-0
+bounds-token-0 c = omega (arith, (long (goal.at.bounds-token-0 c).Else-too_short).0)
+
+pub text_in-requires : goal.text_in-requires
+text_in-requires c = omega (arith, (long (goal.at.text_in-requires c).Else-too_short).0)
+
+pub put_quantity-requires : goal.put_quantity-requires
+put_quantity-requires c = (long (goal.at.put_quantity-requires c).Else-too_short).1
+
+-- past the test of lengths, what the token in the numbers answers
+answered : (q : After-number-given)
+    → let a = (start q.before.before.before.before).args in
+    number_numbers a.src.now a.area.now a.token.now a.answer.now ≡ answered_by quantity_numbers (answer_outcome q.number.result) a.answer.now
+unfolding number_numbers
+answered q =
+    let k = q.before.before in
+    let e = k.before.before in
+    rw (sym e.before.too_short.ensures ∙ e.if1.false, ← q.before.text_in.ensures, q.number.ensures, k.kind-of.ensures, kind_asked)
+
+pub returns-in-Gave : goal.returns-in-Gave
+returns-in-Gave c =
+    rw (c.put_quantity.ensures, answered c.before.before.before.before.before.before.before, c.in-Gave.is)
+
+pub returns-in-Refused : goal.returns-in-Refused
+returns-in-Refused c = rw (answered c.before.before.before, c.in-Refused.is)

@@ -1,0 +1,43 @@
+-- `questions::scanner_error` meets its contract: past the test of lengths the state in the numbers is asked.
+use mathlib.Core.Path.{◌≡◌, sym, ◌∙◌}
+use borrow.Author.Rules.{rules}
+use Rattle.refusal.proofs.Lengths.{long_enough}
+use Rattle.errors.specs.Answers.{got}
+use Rattle.errors.specs.Layout.{numbers}
+use Rattle.queries_c.specs.Asked.{answered_by}
+use Rattle.queries_c.specs.Questions.{error_or, error_numbers}
+use Rattle.queries_c.proofs.questions.scanner_error.Goals as goal
+use Rattle.queries_c.proofs.questions.scanner_error.Goals.{After-error-got}
+
+pub returns-then-too_short : goal.returns-then-too_short
+unfolding error_numbers
+returns-then-too_short c = rw (sym c.too_short.ensures ∙ c.if-too_short.true)
+
+pub put_error-requires : goal.put_error-requires
+put_error-requires c =
+    (long_enough _ _ _ _ c.too_short.ensures c.if-too_short.false).1
+
+pub put_error-requires-in-Nothing : goal.put_error-requires-in-Nothing
+put_error-requires-in-Nothing c =
+    (long_enough _ _ _ _ c.too_short.ensures c.if-too_short.false).1
+
+-- past the test of lengths, what the state in the numbers answers
+answered : (q : After-error-got)
+    → let a = q.before.before.before.before.before.before.before.args in
+    error_numbers a.state.now a.list.now a.index a.answer.now ≡ answered_by error_or (got q.error.result) a.answer.now
+unfolding error_numbers
+answered q =
+    let e = q.before.before in
+    rw (sym e.before.too_short.ensures ∙ e.if1.false, ← q.before.state-in.ensures, ← q.error.ensures)
+
+pub returns-in-Found : goal.returns-in-Found
+returns-in-Found c =
+    rw (c.put_error.ensures, answered c.before.before.before.before.before.before.before, c.in-Found.is)
+
+pub returns-in-Nothing : goal.returns-in-Nothing
+unfolding numbers
+returns-in-Nothing c =
+    rw (c.put_error-in-Nothing.ensures, answered c.before.before.before.before.before.before, c.in-Nothing.is)
+
+pub returns-in-Refused : goal.returns-in-Refused
+returns-in-Refused c = rw (answered c.before.before.before, c.in-Refused.is)

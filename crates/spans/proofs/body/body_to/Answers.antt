@@ -1,0 +1,93 @@
+use Prim.Native.Nat.{◌-◌}
+use mathlib.Core.Path.{refl, sym, ◌∙◌}
+use native.Mathlib.Omega.{arith}
+use lib.ListN.{length, drop}
+use Rattle.utf8.specs.Chars.{chars}
+use Rattle.spans.specs.Span.{to_stop}
+use Rattle.spans.specs.Body.{stop_body}
+use Rattle.spans.specs.Plain.{PlainRun}
+use Rattle.spans.proofs.Bodies.{PartRead, part_start, part_end, part_last, grown_end, part_next, stop_last, stop_more}
+use Rattle.spans.proofs.Blocks.{block_true, skipped, part_plain}
+use Rattle.spans.proofs.body.body_to.Goals as goal
+use Rattle.spans.proofs.body.body_to.Goals.{After-run_len-n, Then-is_block}
+
+pub loop-body-init : goal.loop-body-init
+loop-body-init c = part_start (to_stop c.args.stop) _ _ _ c.empty-body.ensures
+
+-- the block that was found
+found : (c : Then-is_block)
+    → let a = c.args in
+    PlainRun a.stop a.src.now c.loop-body.body.end 16
+found c = block_true _ _ _ (sym c.is_block.ensures ∙ c.if-is_block.true)
+
+pub overflow_add-body : goal.overflow_add-body
+overflow_add-body c = omega (arith, (found (goal.at.overflow_add-body c).Then-is_block).ranges)
+
+pub overflow_add-body-then-is_block : goal.overflow_add-body-then-is_block
+overflow_add-body-then-is_block c = let i = c.loop-body.invariant.counted in omega (arith, (found (goal.at.overflow_add-body-then-is_block c).Then-is_block).fits)
+
+pub loop-body-smaller-then-is_block : goal.loop-body-smaller-then-is_block
+loop-body-smaller-then-is_block c = omega (arith, (found (goal.at.loop-body-smaller-then-is_block c).Then-is_block).fits)
+
+pub loop-body-preserved-then-is_block : goal.loop-body-preserved-then-is_block
+loop-body-preserved-then-is_block c =
+    let a = c.args in
+    let s = a.src.now in
+    part_plain _ (to_stop a.stop) a.stop s (λ p h e r. stop_more s p h r a.stop c.requires e)
+    16 c.loop-body.body (found (goal.at.loop-body-preserved-then-is_block c).Then-is_block) c.loop-body.invariant
+
+pub run_len-n-requires : goal.run_len-n-requires
+run_len-n-requires c = (c.requires, c.loop-body-test.true)
+
+pub overflow_add-body-in-loop-body : goal.overflow_add-body-in-loop-body
+overflow_add-body-in-loop-body c = omega (arith, c.run_len-n.ensures.0.fits)
+
+pub overflow_add-body-in-loop-body-2 : goal.overflow_add-body-in-loop-body-2
+overflow_add-body-in-loop-body-2 c = let i = c.loop-body.invariant.counted in omega (arith, c.run_len-n.ensures.0.fits)
+
+-- after the run that was found the whole is the same
+after_run : (c : After-run_len-n)
+    → let a = c.args in
+    PartRead (stop_body a.stop a.at (chars (drop a.at a.src.now))) (to_stop a.stop) a.src.now (skipped c.loop-body.body c.run_len-n.result)
+after_run c =
+    let a = c.args in
+    let s = a.src.now in
+    part_plain _ (to_stop a.stop) a.stop s (λ p h e r. stop_more s p h r a.stop c.requires e)
+    c.run_len-n.result c.loop-body.body c.run_len-n.ensures.0 c.loop-body.invariant
+
+pub overflow_add-closes : goal.overflow_add-closes
+overflow_add-closes c = omega (arith, c.run_len-n.ensures.0.fits)
+
+pub bounds-src-p : goal.bounds-src-p
+bounds-src-p c = c.run_len-n.ensures.1 c.if-n-lt8.true
+
+pub grow-body-requires : goal.grow-body-requires
+grow-body-requires c = (c.run_len-n.ensures.1 c.if-n-lt8.true, (after_run (goal.at.grow-body-requires c).After-run_len-n).counted)
+
+pub returns-then-closes : goal.returns-then-closes
+returns-then-closes c =
+    let more = c.run_len-n.ensures.1 c.if-n-lt8.true in
+    part_last _ _ _ _ (after_run (goal.at.returns-then-closes c).After-run_len-n) more _ _ c.grow-body.ensures c.if-closes.true
+    (λ r. stop_last _ _ more r _ c.requires c.if-closes.true)
+
+pub loop-body-smaller-else-closes : goal.loop-body-smaller-else-closes
+loop-body-smaller-else-closes c =
+    let more = c.run_len-n.ensures.1 c.if-n-lt8.true in
+    omega (arith, grown_end _ _ _ _ (after_run (goal.at.loop-body-smaller-else-closes c).After-run_len-n) more _ _ c.grow-body.ensures)
+
+pub loop-body-preserved-else-closes : goal.loop-body-preserved-else-closes
+loop-body-preserved-else-closes c =
+    let more = c.run_len-n.ensures.1 c.if-n-lt8.true in
+    part_next _ _ _ _ (after_run (goal.at.loop-body-preserved-else-closes c).After-run_len-n) more _ _ c.grow-body.ensures c.if-closes.false
+    (to_stop c.args.stop)
+    (λ r. stop_more _ _ more r _ c.requires c.if-closes.false)
+
+pub loop-body-smaller : goal.loop-body-smaller
+loop-body-smaller c = omega (arith, c.run_len-n.ensures.0.fits)
+
+pub loop-body-preserved : goal.loop-body-preserved
+loop-body-preserved c = after_run (goal.at.loop-body-preserved c).After-run_len-n
+
+pub returns : goal.returns
+unfolding to_stop
+returns c = part_end _ _ _ _ c.loop-body.invariant refl c.loop-body-test.false

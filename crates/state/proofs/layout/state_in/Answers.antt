@@ -1,0 +1,17 @@
+-- `layout::state_in` meets its contract: each field is the number at its index.
+use borrow.Author.Rules.{rules}
+use Rattle.state.proofs.layout.state_in.Goals as goal
+
+pub returns : goal.returns
+returns c =
+    rw (
+      c.number_at-9.ensures,
+      c.number_at-8.ensures,
+      c.number_at-7.ensures,
+      c.number_at-6.ensures,
+      c.number_at-5.ensures,
+      c.number_at-4.ensures,
+      c.number_at-3.ensures,
+      c.number_at-2.ensures,
+      c.number_at.ensures,
+    )

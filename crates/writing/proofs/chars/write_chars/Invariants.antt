@@ -1,0 +1,20 @@
+-- `writing::chars::write_chars` meets its contract. The loop's invariant: the text of what is left is to be written from the present place on.
+use Prim.Native.Nat.{ℕ, ◌+◌, ◌-◌}
+use mathlib.Core.Path.{◌≡◌, refl, ap, ◌∙◌}
+use mathlib.Core.List.{List, ◌++◌, append_assoc}
+use native.Mathlib.Omega.{arith}
+use borrow.Author.Rules.{rules}
+use lib.ListN.{length}
+use lib.Seq.{sets}
+use Rattle.utf8.specs.Chars.{encode}
+use Rattle.utf8.proofs.First.{there_fits}
+use Rattle.writing.proofs.Areas.{left_as_with_rest}
+use Rattle.writing.proofs.Texts.{text_at, text_none, text_end, text_kept, text_dropped}
+use Rattle.writing.proofs.chars.write_chars.Given as goal
+
+abbrev pub invariant-loop-left : goal.invariant-loop-left
+invariant-loop-left l =
+    (length l.area ≡ length l.initial.area) × ((rest : List ℕ) → sets l.initial.area l.to (text_at l.crs l.count l.src l.at ++ rest) ≡ sets l.area l.n (text_at l.crs l.left l.src l.p ++ rest))
+
+abbrev pub decreases-loop-left : goal.decreases-loop-left
+decreases-loop-left l = l.left

@@ -1,0 +1,6 @@
+-- `writing::value::write_raw` meets its contract.
+use borrow.Author.Rules.{rules}
+use Rattle.writing.proofs.value.write_raw.Goals as goal
+
+pub returns : goal.returns
+returns c = rw c.raw_inside.ensures at c.write_clean.ensures
