@@ -27,6 +27,14 @@ byte_at : (p : ℕ) → p < length names → get_or names p 0 ≡ get_or (name_o
 unfolding row_of table specials operators keywords
 byte_at p h = eqb→eq _ _ (every_entry right names 0 tt p h)
 
+pub overflow_mul-result : goal.overflow_mul-result
+unfolding table specials operators keywords
+overflow_mul-result c = search rules
+
+pub overflow_add-result : goal.overflow_add-result
+unfolding table specials operators keywords
+overflow_add-result c = search rules
+
 pub returns : goal.returns
 unfolding row_of table specials operators keywords
 returns c =

@@ -18,6 +18,10 @@ returns-then-kind-ge-KINDS c = ap padded (no_name c.args.kind (search rules) (se
 pub loop-len-init : goal.loop-len-init
 loop-len-init c = (search rules, refl)
 
+pub byte_of-byte-requires : goal.byte_of-byte-requires
+unfolding table specials operators keywords
+byte_of-byte-requires c = search rules
+
 -- the whole name is passed
 whole : (c : At-loop-len)
     → length (name_of c.args.kind) ≤ c.loop-len.len
