@@ -19,7 +19,6 @@ mod show;
 mod texts;
 mod words;
 
-use libc::STDIN_FILENO;
 use machine::Machine;
 
 // The byte that a byte of the cases stands for.
@@ -62,6 +61,6 @@ fn run(cases: &mut [u8]) {
 
 fn main() {
     let mut cases = [0u8; 16384];
-    let n = io::read_full(STDIN_FILENO, &mut cases);
+    let n = io::read_full(show::INPUT, &mut cases);
     run(&mut cases[..n]);
 }

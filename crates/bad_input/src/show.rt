@@ -1,10 +1,14 @@
 // Writes the answers.
 use errors::Got;
-use libc::STDOUT_FILENO;
 use position::{Answer, Located};
 
+// The files that every program has open: standard input and standard output.
+pub(crate) const INPUT: i32 = 0;
+
+const OUTPUT: i32 = 1;
+
 pub(crate) fn text(s: &[u8]) {
-    io::write_all(STDOUT_FILENO, s);
+    io::write_all(OUTPUT, s);
 }
 
 pub(crate) fn byte(b: u8) {
@@ -14,7 +18,7 @@ pub(crate) fn byte(b: u8) {
 
 pub(crate) fn number(n: usize) {
     byte(b' ');
-    io::print_decimal(STDOUT_FILENO, n as u64);
+    io::print_decimal(OUTPUT, n as u64);
 }
 
 pub(crate) fn bytes(s: &[u8]) {

@@ -2,7 +2,7 @@
 // last answer.
 #![tactic(auto)]
 
-use libc::{STDIN_FILENO, STDOUT_FILENO};
+use std::io::Read;
 use validation::Checked;
 
 fn number(answer: Checked) -> usize {
@@ -25,12 +25,8 @@ fn check_often(text: &mut [u8]) -> usize {
     last
 }
 
-fn main() {
+fn main(rt: HostRuntime) -> std::io::Result<()> {
     let mut text = [0u8; 65536];
-    let got = libc::read(STDIN_FILENO, &mut text);
-    if got < 0 {
-        return;
-    }
-    let n = io::count(got, &text);
-    io::print_decimal(STDOUT_FILENO, check_often(&mut text[..n]) as u64);
+    let n = rt.stdin().read(&mut text)?;
+    print!(rt; "{}", check_often(&mut text[..n]))
 }

@@ -10,25 +10,20 @@ mod people;
 mod show;
 mod words;
 
-use libc::STDIN_FILENO;
+use std::env;
+
+// Standard input, a file that every program has open.
+const INPUT: i32 = 0;
 
 // Is the first argument `--names`?
-fn wants_names() -> bool {
-    let mut word = [0u8; 8];
-    let n = os::arg(1, &mut word);
-    if n != 7 {
-        return false;
+fn wants_names(rt: &HostRuntime) -> std::io::Result<bool> {
+    match env::args(rt)?.nth(1) {
+        Some(word) => Ok(word.as_str() == "--names"),
+        None => Ok(false),
     }
-    word[0] == b'-'
-        && word[1] == b'-'
-        && word[2] == b'n'
-        && word[3] == b'a'
-        && word[4] == b'm'
-        && word[5] == b'e'
-        && word[6] == b's'
 }
 
-fn main() {
+fn main(rt: HostRuntime) -> std::io::Result<()> {
     // one byte more than the longest text has
     let mut src = [0u8; 65537];
     let mut area = [0u8; 65536];
@@ -36,7 +31,8 @@ fn main() {
     // 1,024 errors of 4 numbers
     let mut list = [0usize; 4096];
     let mut out = [0u8; 4096];
-    let names = wants_names();
-    let n = io::read_full(STDIN_FILENO, &mut src);
+    let names = wants_names(&rt)?;
+    let n = io::read_full(INPUT, &mut src);
     listing::list(names, &src[..n], &mut table, &mut list, &mut area, &mut out);
+    Ok(())
 }

@@ -1,6 +1,7 @@
 // Output by way of a buffer, whose first `waiting` bytes are still to be written. What adds to it
 // answers how many wait then.
-use libc::STDOUT_FILENO;
+// Standard output, a file that every program has open.
+const OUTPUT: i32 = 1;
 
 const ROOM: usize = 4096;
 
@@ -9,9 +10,9 @@ pub(crate) type Buffer = [u8; ROOM];
 // Writes what waits, no more than there is.
 pub(crate) fn flush(out: &[u8], waiting: usize) {
     if waiting < out.len() {
-        io::write_all(STDOUT_FILENO, &out[..waiting]);
+        io::write_all(OUTPUT, &out[..waiting]);
     } else {
-        io::write_all(STDOUT_FILENO, out);
+        io::write_all(OUTPUT, out);
     }
 }
 
