@@ -1,4 +1,4 @@
--- The numbers of the kinds, under the names of the code's constants, with - for _.
+-- The numbers of the kinds, under the names of the code's constants.
 use Rattle.std.specs.Prelude.{ℕ}
 
 abbrev pub NONE : ℕ

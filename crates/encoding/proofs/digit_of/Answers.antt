@@ -1,5 +1,6 @@
 -- `encoding::digit_of` meets its contract: each arm is a case of the definition.
-use borrow.Author.Tests.{ne_eqb}
+use native.Mathlib.Omega.{arith}
+use Rattle.std.proofs.lemmas.Grind.{common_steps}
 use Rattle.encoding.specs.Steps.{digit}
 use Rattle.encoding.proofs.digit_of.Goals as goal
 
@@ -17,4 +18,4 @@ returns-in-2 c = rw c.in-2.is
 
 pub returns-in_default : goal.returns-in_default
 unfolding digit
-returns-in_default c = simp (ne_eqb _ _ c.in_default.rest.0.0.1, ne_eqb _ _ c.in_default.rest.0.1, ne_eqb _ _ c.in_default.rest.1)
+returns-in_default c = grind (arith, common_steps)

@@ -6,7 +6,6 @@ use borrow.Author.Tests.{ne_eqb}
 use lib.ListN.{get_or-eq_default}
 use Rattle.utf8.specs.Chars.{encode}
 use Rattle.encoding.proofs.Written.{encode_at, code_limit, digit_most, lead_most}
-use borrow.Author.Rules.{rules}
 use Rattle.encoding.proofs.encoded_byte.Goals as goal
 
 pub returns-then-n-k : goal.returns-then-n-k

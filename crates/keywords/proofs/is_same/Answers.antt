@@ -1,8 +1,5 @@
-use Prim.Native.Nat.{◌≤◌, ◌-◌}
-use mathlib.Core.Path.{◌≡◌, refl, sym, ◌∙◌}
+use mathlib.Core.Path.{refl, sym, ◌∙◌}
 use borrow.Author.Rules.{rules}
-use lib.ListN.{length, drop}
-use Rattle.basics.specs.Same.{same}
 use Rattle.basics.proofs.Lists.{same_length, same_end, same_next, same_differ}
 use Rattle.keywords.proofs.is_same.Goals as goal
 

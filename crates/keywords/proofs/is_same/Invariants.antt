@@ -1,10 +1,8 @@
 -- The invariant: the strings are the same if what is left of them is.
 use Prim.Native.Nat.{◌≤◌, ◌-◌}
-use mathlib.Core.Path.{◌≡◌, refl, sym, ◌∙◌}
-use borrow.Author.Rules.{rules}
+use mathlib.Core.Path.{◌≡◌}
 use lib.ListN.{length, drop}
 use Rattle.basics.specs.Same.{same}
-use Rattle.basics.proofs.Lists.{same_length, same_end, same_next, same_differ}
 use Rattle.keywords.proofs.is_same.Given as goal
 
 abbrev pub invariant-loop-i : goal.invariant-loop-i

@@ -1,13 +1,13 @@
 -- The loop fills the table slot by slot.
 use Prim.Native.Nat.{ℕ, ◌-◌}
-use mathlib.Core.Path.{refl, ap}
-use lib.ListN.{replicate}
-use borrow.Author.Rules.{rules}
-use Rattle.kinds.specs.Kinds.{IDENT}
 use Rattle.kinds.specs.Table.{keywords}
 use Rattle.keywords.specs.Search.{row_in}
-use Rattle.keywords.proofs.Slots.{Filled, begun, more, full}
+use Rattle.keywords.proofs.Slots.{Filled}
 use Rattle.keywords.proofs.keyword_kinds.Given as goal
+
+-- the entry of a slot
+abbrev pub has : ℕ → ℕ
+has slot = (row_in slot keywords).0
 
 abbrev pub invariant-loop-slot : goal.invariant-loop-slot
 invariant-loop-slot l = Filled has l.kinds l.slot

@@ -1,15 +1,8 @@
-use Prim.Native.Nat.{ℕ, ◌-◌}
 use mathlib.Core.Path.{refl, ap}
 use lib.ListN.{replicate}
-use borrow.Author.Rules.{rules}
-use Rattle.kinds.specs.Table.{keywords}
-use Rattle.keywords.specs.Search.{row_in}
-use Rattle.keywords.proofs.Slots.{Filled, begun, more, full}
+use Rattle.keywords.proofs.Slots.{begun, more, full}
+use Rattle.keywords.proofs.keyword_numbers.Invariants.{has}
 use Rattle.keywords.proofs.keyword_numbers.Goals as goal
-
--- the entry of a slot
-abbrev has : ℕ → ℕ
-has slot = (row_in slot keywords).1
 
 pub loop-slot-init : goal.loop-slot-init
 loop-slot-init c = begun has (replicate 64 0) refl

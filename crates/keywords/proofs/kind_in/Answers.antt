@@ -1,5 +1,4 @@
 -- The slot is read in both tables.
-use borrow.Author.Rules.{rules}
 use Rattle.keywords.proofs.Slots.{slot_reduced, kind_hit, kind_miss}
 use Rattle.keywords.proofs.kind_in.Goals as goal
 

@@ -1,6 +1,5 @@
 -- There are two long keywords, and no others.
 use mathlib.Core.Path.{sym, ◌∙◌}
-use borrow.Author.Rules.{rules}
 use Rattle.keywords.proofs.Words.{interface_named, fallthrough_named, long_unknown}
 use Rattle.keywords.proofs.long_word.Goals as goal
 

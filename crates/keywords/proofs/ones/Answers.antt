@@ -1,12 +1,7 @@
 -- Each arm's number by computation; what is left is 0.
-use Prim.Native.Nat.{ℕ, ◌+◌, ◌≤◌}
-use mathlib.Core.Path.{◌≡◌}
+use Rattle.std.proofs.lemmas.Grind.{common_steps}
 use native.Mathlib.Omega.{arith}
 use Rattle.keywords.proofs.ones.Goals as goal
-
--- a number up to m + 4 that is none of the last four is at most m
-under : (m n : ℕ) → n ≤ m + 4 → (n ≡ m + 1 → ⊥) → (n ≡ m + 2 → ⊥) → (n ≡ m + 3 → ⊥) → (n ≡ m + 4 → ⊥) → n ≤ m
-under m n h a b c d = omega arith
 
 pub returns-in-1 : goal.returns-in-1
 returns-in-1 c = rw c.in-1.is
@@ -33,10 +28,4 @@ pub returns-in-8 : goal.returns-in-8
 returns-in-8 c = rw c.in-8.is
 
 pub returns-in_default : goal.returns-in_default
-returns-in_default c =
-    let n = c.args.n in
-    let r = c.in_default.rest in
-    let four = under 4 n c.requires r.0.0.0.1 r.0.0.1 r.0.1 r.1 in
-    let none = under 0 n four r.0.0.0.0.0.0.0.1 r.0.0.0.0.0.0.1 r.0.0.0.0.0.1 r.0.0.0.0.1 in
-    let e : n ≡ 0 = omega (arith, none) in
-    rw e
+returns-in_default c = grind (arith, common_steps)

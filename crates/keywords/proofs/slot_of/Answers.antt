@@ -1,6 +1,5 @@
 -- The definition, word for word.
 use mathlib.Core.Path.{refl}
-use borrow.Author.Rules.{rules}
 use Rattle.keywords.specs.Search.{slot_of}
 use Rattle.keywords.proofs.slot_of.Goals as goal
 

@@ -1,15 +1,13 @@
-use Prim.Native.Nat.{◌+◌, ◌-◌, ◌≤◌}
+use Prim.Native.Nat.{◌+◌, ◌≤◌}
 use mathlib.Core.Path.{◌≡◌, sym, ◌∙◌}
 use mathlib.Core.Bool.{true}
 use native.Mathlib.Omega.{arith}
 use borrow.Author.Rules.{rules}
 use lib.ListN.{length, take, drop}
-use Rattle.utf8.specs.Chars.{chars}
-use Rattle.validation.specs.Answers.{checked_of}
 use Rattle.validation.specs.Steps.{all_ascii}
 use Rattle.utf8.proofs.First.{there_least, there_fits}
 use Rattle.validation.proofs.AsciiBlock.{block_true}
-use Rattle.validation.proofs.Answer.{checked_from, checked_start, checked_end, checked_next, checked_bad, checked_ascii}
+use Rattle.validation.proofs.Answer.{checked_start, checked_end, checked_next, checked_bad, checked_ascii}
 use Rattle.validation.proofs.check.Goals as goal
 use Rattle.validation.proofs.check.Goals.{Else-is_stray, Then-is_block}
 

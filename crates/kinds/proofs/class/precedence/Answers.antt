@@ -60,7 +60,7 @@ unfolding precedence_of
 returns-in_default c = level 0 NONE 10 tt c.args.kind (search rules) (search rules)
 
 pub returns-in_default-2 : goal.returns-in_default-2
-returns-in_default-2 c = middle _ (search rules) (search rules) c.in_default-1.rest.1 c.in_default-1.rest.0.1
+returns-in_default-2 c = middle _ (search rules) (search rules) (search rules) (search rules)
 
 pub returns-in_default-3 : goal.returns-in_default-3
 unfolding precedence_of

@@ -2,7 +2,6 @@
 use Prim.Native.Nat.{ℕ, zero, suc, ◌+◌, ◌<◌, ◌≤◌, ◌/◌, ◌%◌, ◌^◌}
 use mathlib.Core.Path.{◌≡◌, ap, ◌∙◌}
 use mathlib.Core.Bool.{Bool, false, cond, beq}
-use mathlib.Core.Logic.{⊎_elim}
 use native.Mathlib.Omega.{arith}
 use lib.Dec.{eqb}
 use lib.Bits.{bit_and}
@@ -11,6 +10,7 @@ use Rattle.basics.proofs.Choice.{same_test}
 use Rattle.kinds.specs.Table.{sets_mark}
 use Rattle.kinds.proofs.Ranges.{every_within}
 use Rattle.kinds.proofs.class.sets_mark.Goals as goal
+use Rattle.kinds.proofs.class.sets_mark.Goals.{then-kind-lt64, else-kind-lt64}
 
 -- the number that has a bit for each of the n kinds from `from` on
 abbrev marks : ℕ → ℕ → ℕ
@@ -37,5 +37,7 @@ pub returns : goal.returns
 returns c =
     let k = c.args.kind in
     let l = c.if-kind-gt127.false in
-    ⊎_elim (λ h. ap (λ m. bit m k) h.1 ∙ low k h.0.taken) (λ h. ap (λ m. bit m k) h.1 ∙ high k h.0.left (omega (arith, l)))
-    c.if-kind-lt64.branch
+    elim c.if-kind-lt64.branch [
+      | then-kind-lt64 w ↦ ap (λ m. bit m k) w.marks-is ∙ low k w.if-kind-lt64.true
+      | else-kind-lt64 w ↦ ap (λ m. bit m k) w.marks-is ∙ high k w.if-kind-lt64.false (omega (arith, l))
+    ]

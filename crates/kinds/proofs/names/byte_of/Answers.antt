@@ -35,6 +35,10 @@ pub overflow_add-result : goal.overflow_add-result
 unfolding table specials operators keywords
 overflow_add-result c = search rules
 
+pub bounds-kind : goal.bounds-kind
+unfolding table specials operators keywords
+bounds-kind c = search rules
+
 pub returns : goal.returns
 unfolding row_of table specials operators keywords
 returns c =

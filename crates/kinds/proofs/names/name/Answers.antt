@@ -1,4 +1,4 @@
-use Prim.Native.Nat.{◌-◌, ◌≤◌, ◌<◌}
+use Prim.Native.Nat.{◌≤◌, ◌<◌}
 use mathlib.Core.Path.{◌≡◌, refl, sym, ap, ap₂, ◌∙◌}
 use native.Mathlib.Omega.{arith}
 use borrow.Author.Rules.{rules}
@@ -6,7 +6,7 @@ use lib.ListN.{length, set}
 use Rattle.kinds.specs.declared.names.Padded.{Padded}
 use Rattle.kinds.specs.Names.{padded}
 use Rattle.kinds.specs.Table.{name_of, table, specials, operators, keywords}
-use Rattle.kinds.proofs.Padding.{filled, filled_next, filled_whole, name_short, name_ends, name_goes_on}
+use Rattle.kinds.proofs.Padding.{filled_next, filled_whole, name_short, name_ends, name_goes_on}
 use Rattle.kinds.proofs.Table.{no_name}
 use Rattle.kinds.proofs.names.name.Goals as goal
 use Rattle.kinds.proofs.names.name.Goals.{At-loop-len}

@@ -1,14 +1,9 @@
 -- The invariant: the array holds the bytes of the name that are passed.
-use Prim.Native.Nat.{◌-◌, ◌≤◌, ◌<◌}
-use mathlib.Core.Path.{◌≡◌, refl, sym, ap, ap₂, ◌∙◌}
-use native.Mathlib.Omega.{arith}
-use borrow.Author.Rules.{rules}
-use lib.ListN.{length, set}
-use Rattle.kinds.specs.declared.names.Padded.{Padded}
-use Rattle.kinds.specs.Names.{padded}
-use Rattle.kinds.specs.Table.{name_of, table, specials, operators, keywords}
-use Rattle.kinds.proofs.Padding.{filled, filled_next, filled_whole, name_short, name_ends, name_goes_on}
-use Rattle.kinds.proofs.Table.{no_name}
+use Prim.Native.Nat.{◌-◌, ◌≤◌}
+use mathlib.Core.Path.{◌≡◌}
+use lib.ListN.{length}
+use Rattle.kinds.specs.Table.{name_of}
+use Rattle.kinds.proofs.Padding.{filled}
 use Rattle.kinds.proofs.names.name.Given as goal
 
 abbrev pub invariant-loop-len : goal.invariant-loop-len

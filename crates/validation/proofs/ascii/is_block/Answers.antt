@@ -1,11 +1,7 @@
-use Prim.Native.Nat.{◌+◌, ◌-◌, ◌≤◌}
 use mathlib.Core.Path.{◌≡◌, refl, sym, ap, ◌∙◌}
-use mathlib.Core.Logic.{⊎_elim}
 use native.Mathlib.Omega.{arith}
 use borrow.Author.Rules.{rules}
 use lib.Dec.{ltb}
-use lib.ListN.{length, take, drop}
-use Rattle.validation.specs.Steps.{all_ascii}
 use Rattle.validation.proofs.AsciiBlock.{ascii_greater, ascii_no_greater, block_short, block_there}
 use Rattle.validation.proofs.ascii.is_block.Goals as goal
 use Rattle.validation.proofs.ascii.is_block.Goals.{else-greatest-b, then-greatest-b}
@@ -24,7 +20,7 @@ loop-k-preserved c =
     let a = c.args in (
       search rules,
       c.loop-k.invariant.1,
-      elim c.if-greatest-b.branch [ then-greatest-b w ↦ ascii_greater a.s.now a.at c.loop-k.k c.loop-k.greatest (omega arith) c.loop-k.invariant.2 w.if-greatest-b.true ∙ sym (ap (λ g. ltb g 0x80) w.1) | else-greatest-b w ↦ ascii_no_greater a.s.now a.at c.loop-k.k c.loop-k.greatest (omega arith) c.loop-k.invariant.2 w.if-greatest-b.false ∙ sym (ap (λ g. ltb g 0x80) w.1) ],
+      elim c.if-greatest-b.branch [ then-greatest-b w ↦ ascii_greater a.s.now a.at c.loop-k.k c.loop-k.greatest (omega arith) c.loop-k.invariant.2 w.if-greatest-b.true ∙ sym (ap (λ g. ltb g 0x80) w.greatest-is) | else-greatest-b w ↦ ascii_no_greater a.s.now a.at c.loop-k.k c.loop-k.greatest (omega arith) c.loop-k.invariant.2 w.if-greatest-b.false ∙ sym (ap (λ g. ltb g 0x80) w.greatest-is) ],
     )
 
 pub returns : goal.returns

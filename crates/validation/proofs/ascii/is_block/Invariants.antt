@@ -1,13 +1,9 @@
 -- `ascii::is_block` meets its contract. The loop's invariant: the bytes so far are ASCII just where the greatest of them is.
 use Prim.Native.Nat.{◌+◌, ◌-◌, ◌≤◌}
-use mathlib.Core.Path.{◌≡◌, refl, sym, ap, ◌∙◌}
-use mathlib.Core.Logic.{⊎_elim}
-use native.Mathlib.Omega.{arith}
-use borrow.Author.Rules.{rules}
+use mathlib.Core.Path.{◌≡◌}
 use lib.Dec.{ltb}
 use lib.ListN.{length, take, drop}
 use Rattle.validation.specs.Steps.{all_ascii}
-use Rattle.validation.proofs.AsciiBlock.{ascii_greater, ascii_no_greater, block_short, block_there}
 use Rattle.validation.proofs.ascii.is_block.Given as goal
 
 abbrev pub invariant-loop-k : goal.invariant-loop-k
