@@ -23,7 +23,7 @@ after c =
     let a = c.args in
     let e = c.byte.ensures in
     joined_start a.at (from a.mark a.src.now a.at)
-    ∙ elim c.if-byte-eq32.branch [ then-byte-eq32 w ↦ rw w.1 (step_space a.mark a.src.now a.at 0 a.at (rw (sym e ∙ w.if-byte-eq32.true) (space_blank a.mark)) (λ f. omega (arith, e, w.if-byte-eq32.true))) | else-byte-eq32 w ↦ rw w.1 ]
+    ∙ elim c.if-byte-eq32.branch [ then-byte-eq32 w ↦ rw w.p-is (step_space a.mark a.src.now a.at 0 a.at (rw (sym e ∙ w.if-byte-eq32.true) (space_blank a.mark)) (λ f. omega (arith, e, w.if-byte-eq32.true))) | else-byte-eq32 w ↦ rw w.p-is ]
 
 pub returns-then-b-mark : goal.returns-then-b-mark
 returns-then-b-mark c =

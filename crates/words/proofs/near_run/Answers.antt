@@ -59,7 +59,7 @@ returns c =
     let a = c.args in
     let len = count_trailing_zeros 64 c.others-marks.result / 8 in
     near a.src.now a.at len _ (run (goal.at.returns c).After-others-marks)
-    (ap (λ x. c.eight-bytes.result % x) (shift _ (shl-above c))
+    (ap (λ x. c.eight-bytes.result % x) (shift _ (overflow_shl-above c))
     ∙ ap (λ x. x % 2 ^ (8 * len)) c.eight-bytes.ensures
     ∙ number_mod (drop a.at a.src.now) len
     (bytes_drop a.at a.src.now (λ i. (c.type_inv.src i).fits)) (omega (arith, below (goal.at.returns c).Else-marks-eq0)))
