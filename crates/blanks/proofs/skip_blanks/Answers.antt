@@ -1,8 +1,6 @@
 -- `blanks::skip_blanks` meets its contract: a space, if there is one, and the blanks after it.
 use mathlib.Core.Path.{◌≡◌, sym, ◌∙◌}
-use mathlib.Core.Logic.{⊎_elim}
 use native.Mathlib.Omega.{arith}
-use borrow.Author.Rules.{rules}
 use lib.ListN.{get_or}
 use Rattle.basics.proofs.Lists.{reach}
 use Rattle.blanks.specs.Blank.{skipped_at}

@@ -7,7 +7,7 @@ use borrow.Author.Rules.{rules}
 use lib.Count.{count_trailing_zeros, trailing_of_zero}
 use lib.Dec.{lit<}
 use lib.ListN.{take, drop}
-use lib.Pow.{pow_pos, shl_exact}
+use lib.Pow.{shl_exact}
 use Rattle.swar.specs.Number.{number_of}
 use Rattle.swar.proofs.Numbers.{bytes_drop, number_mod}
 use Rattle.swar.proofs.Trailing.{zeros_lt}
