@@ -1,7 +1,6 @@
 -- `escapes::escape::code_of` meets its contract: the tests in their order.
 use mathlib.Core.Path.{sym, ◌∙◌}
 use borrow.Author.Tests.{eq-eqb, ne_eqb}
-use borrow.Author.Rules.{rules}
 use Rattle.escapes.specs.Escape.{code_point_of}
 use Rattle.escapes.proofs.escape.code_of.Goals as goal
 
