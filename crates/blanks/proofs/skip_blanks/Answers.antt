@@ -1,8 +1,6 @@
 -- `blanks::skip_blanks` meets its contract: a space, if there is one, and the blanks after it.
 use mathlib.Core.Path.{◌≡◌, sym, ◌∙◌}
-use mathlib.Core.Logic.{⊎_elim}
 use native.Mathlib.Omega.{arith}
-use borrow.Author.Rules.{rules}
 use lib.ListN.{get_or}
 use Rattle.basics.proofs.Lists.{reach}
 use Rattle.blanks.specs.Blank.{skipped_at}
@@ -23,7 +21,7 @@ after c =
     let a = c.args in
     let e = c.byte.ensures in
     joined_start a.at (from a.mark a.src.now a.at)
-    ∙ elim c.if-byte-eq32.branch [ then-byte-eq32 w ↦ rw w.1 (step_space a.mark a.src.now a.at 0 a.at (rw (sym e ∙ w.if-byte-eq32.true) (space_blank a.mark)) (λ f. omega (arith, e, w.if-byte-eq32.true))) | else-byte-eq32 w ↦ rw w.1 ]
+    ∙ elim c.if-byte-eq32.branch [ then-byte-eq32 w ↦ rw w.p-is (step_space a.mark a.src.now a.at 0 a.at (rw (sym e ∙ w.if-byte-eq32.true) (space_blank a.mark)) (λ f. omega (arith, e, w.if-byte-eq32.true))) | else-byte-eq32 w ↦ rw w.p-is ]
 
 pub returns-then-b-mark : goal.returns-then-b-mark
 returns-then-b-mark c =

@@ -1,18 +1,16 @@
-use Prim.Native.Nat.{ℕ, ◌-◌, ◌/◌, ◌^◌, ◌≤◌}
+use Prim.Native.Nat.{ℕ, ◌/◌, ◌^◌}
 use mathlib.Core.Path.{◌≡◌, sym, ap, ◌∙◌}
 use mathlib.Core.Bool.{Bool, not}
-use mathlib.Core.Logic.{⊎_elim}
 use native.Mathlib.Omega.{arith}
-use borrow.Author.Rules.{rules}
 use borrow.Author.Tests.{not-true, not-false, eq-eqb, ne_eqb}
 use lib.Bits.{bit_and}
 use lib.Dec.{eqb}
-use lib.ListN.{length, get_or, drop}
+use lib.ListN.{get_or, drop}
 use Rattle.utf8.specs.Chars.{chars}
-use Rattle.blanks.specs.Blank.{is_blank, skip, skipped_at}
-use Rattle.blanks.proofs.Blanks.{joined, joined_start, blank_above, bits, bits_say, step_end, step_none, step_space, step_feed}
+use Rattle.blanks.specs.Blank.{is_blank, skip}
+use Rattle.blanks.proofs.Blanks.{joined_start, blank_above, bits, bits_say, step_end, step_none, step_space, step_feed}
 use Rattle.blanks.proofs.skip_bytes.Goals as goal
-use Rattle.blanks.proofs.skip_bytes.Goals.{Else-b-gt32, Joined-mark, else-mark, then-mark}
+use Rattle.blanks.proofs.skip_bytes.Goals.{Else-b-gt32, else-mark, then-mark}
 
 pub loop-p-init : goal.loop-p-init
 loop-p-init c =
@@ -25,8 +23,8 @@ returns-then-b-gt32 c =
     sym (c.loop-p.invariant.1 ∙ step_none a.mark a.src.now c.loop-p.p c.loop-p.lfs c.loop-p.line (blank_above a.mark _ c.if-b-gt32.true))
 
 -- the number whose bits are tested
-number : (c : Joined-mark) → c.if-mark.blanks ≡ bits c.args.mark
-number c = elim c.if-mark.branch [ then-mark w ↦ rw (w.1, w.if-mark.true) | else-mark w ↦ rw (w.1, w.if-mark.false) ]
+number : (c : Else-b-gt32) → c.if-mark.blanks ≡ bits c.args.mark
+number c = elim c.if-mark.branch [ then-mark w ↦ rw (w.blanks-is, w.if-mark.true) | else-mark w ↦ rw (w.blanks-is, w.if-mark.false) ]
 
 -- and the bit that was tested says whether the byte is blank
 module _ (c : Else-b-gt32) where
@@ -37,7 +35,7 @@ module _ (c : Else-b-gt32) where
   byte = get_or c.args.src.now c.loop-p.p 0
 
   bit : eqb (bit_and (c.if-mark.blanks / 2 ^ byte) 1) 0 ≡ not (is_blank mark byte)
-  bit = ap (λ x. eqb (bit_and (x / 2 ^ byte) 1) 0) (number c.before.before.before.before.before) ∙ bits_say mark byte (omega arith)
+  bit = ap (λ x. eqb (bit_and (x / 2 ^ byte) 1) 0) (number c) ∙ bits_say mark byte (omega arith)
 
 pub returns-then-blanks-b-eq0 : goal.returns-then-blanks-b-eq0
 returns-then-blanks-b-eq0 c =

@@ -59,6 +59,6 @@ pub returns-in_default : goal.returns-in_default
 returns-in_default c =
     let a = c.args in
     let y = c.byte-b.ensures in
-    let no = c.in_default in
+    let b = c.byte-b.result in
     c.scan_bare_zero.ensures
-    ∙ sym (ap (number_at a.at) (zero_is a.src.now a.at c.requires ∙ rw (← y, ne_eqb _ _ no.rest.0.0.0.0.0.1, ne_eqb _ _ no.rest.0.0.0.0.1, ne_eqb _ _ no.rest.0.0.0.1, ne_eqb _ _ no.rest.0.0.1, ne_eqb _ _ no.rest.0.1, ne_eqb _ _ no.rest.1)))
+    ∙ sym (ap (number_at a.at) (zero_is a.src.now a.at c.requires ∙ rw (← y, ne_eqb b 120 (search rules), ne_eqb b 88 (search rules), ne_eqb b 111 (search rules), ne_eqb b 79 (search rules), ne_eqb b 98 (search rules), ne_eqb b 66 (search rules))))

@@ -67,43 +67,43 @@ module _ (c : After-byte-b) where
 
 pub returns-in-43 : goal.returns-in-43
 unfolding operators
-returns-in-43 c = c.scan_switch3.ensures ∙ switch3_here c.before.before (code "+") c.in-43.is ADD ADD_ASSIGN INC (code "+") refl
+returns-in-43 c = c.scan_switch3.ensures ∙ switch3_here (goal.at.returns-in-43 c).After-byte-b (code "+") c.in-43.is ADD ADD_ASSIGN INC (code "+") refl
 
 pub returns-in-45 : goal.returns-in-45
 unfolding operators
-returns-in-45 c = c.scan_switch3-in-45.ensures ∙ switch3_here c.before.before (code "-") c.in-45.is SUB SUB_ASSIGN DEC (code "-") refl
+returns-in-45 c = c.scan_switch3-in-45.ensures ∙ switch3_here (goal.at.returns-in-45 c).After-byte-b (code "-") c.in-45.is SUB SUB_ASSIGN DEC (code "-") refl
 
 pub returns-in-124 : goal.returns-in-124
 unfolding operators
-returns-in-124 c = c.scan_switch3-in-124.ensures ∙ switch3_here c.before.before (code "|") c.in-124.is OR OR_ASSIGN LOR (code "|") refl
+returns-in-124 c = c.scan_switch3-in-124.ensures ∙ switch3_here (goal.at.returns-in-124 c).After-byte-b (code "|") c.in-124.is OR OR_ASSIGN LOR (code "|") refl
 
 pub returns-in-42 : goal.returns-in-42
 unfolding operators
-returns-in-42 c = c.scan_switch2.ensures ∙ switch2_here c.before.before (code "*") c.in-42.is MUL MUL_ASSIGN refl
+returns-in-42 c = c.scan_switch2.ensures ∙ switch2_here (goal.at.returns-in-42 c).After-byte-b (code "*") c.in-42.is MUL MUL_ASSIGN refl
 
 pub returns-in-47 : goal.returns-in-47
 unfolding operators
-returns-in-47 c = c.scan_switch2-in-47.ensures ∙ switch2_here c.before.before (code "/") c.in-47.is QUO QUO_ASSIGN refl
+returns-in-47 c = c.scan_switch2-in-47.ensures ∙ switch2_here (goal.at.returns-in-47 c).After-byte-b (code "/") c.in-47.is QUO QUO_ASSIGN refl
 
 pub returns-in-37 : goal.returns-in-37
 unfolding operators
-returns-in-37 c = c.scan_switch2-in-37.ensures ∙ switch2_here c.before.before (code "%") c.in-37.is REM REM_ASSIGN refl
+returns-in-37 c = c.scan_switch2-in-37.ensures ∙ switch2_here (goal.at.returns-in-37 c).After-byte-b (code "%") c.in-37.is REM REM_ASSIGN refl
 
 pub returns-in-94 : goal.returns-in-94
 unfolding operators
-returns-in-94 c = c.scan_switch2-in-94.ensures ∙ switch2_here c.before.before (code "^") c.in-94.is XOR XOR_ASSIGN refl
+returns-in-94 c = c.scan_switch2-in-94.ensures ∙ switch2_here (goal.at.returns-in-94 c).After-byte-b (code "^") c.in-94.is XOR XOR_ASSIGN refl
 
 pub returns-in-33 : goal.returns-in-33
 unfolding operators
-returns-in-33 c = c.scan_switch2-in-33.ensures ∙ switch2_here c.before.before (code "!") c.in-33.is NOT NEQ refl
+returns-in-33 c = c.scan_switch2-in-33.ensures ∙ switch2_here (goal.at.returns-in-33 c).After-byte-b (code "!") c.in-33.is NOT NEQ refl
 
 pub returns-in-61 : goal.returns-in-61
 unfolding operators
-returns-in-61 c = c.scan_switch2-in-61.ensures ∙ switch2_last_here c.before.before (code "=") c.in-61.is ASSIGN EQL refl
+returns-in-61 c = c.scan_switch2-in-61.ensures ∙ switch2_last_here (goal.at.returns-in-61 c).After-byte-b (code "=") c.in-61.is ASSIGN EQL refl
 
 pub returns-in-58 : goal.returns-in-58
 unfolding operators
-returns-in-58 c = c.scan_switch2-in-58.ensures ∙ switch2_last_here c.before.before (code ":") c.in-58.is COLON DEFINE refl
+returns-in-58 c = c.scan_switch2-in-58.ensures ∙ switch2_last_here (goal.at.returns-in-58 c).After-byte-b (code ":") c.in-58.is COLON DEFINE refl
 
 pub returns-in-60 : goal.returns-in-60
 returns-in-60 c = c.scan_less.ensures ∙ less_here (goal.at.returns-in-60 c).After-byte-b _ c.byte.ensures c.in-60.is
@@ -119,35 +119,35 @@ returns-in-46 c = c.scan_period.ensures ∙ period_here (goal.at.returns-in-46 c
 
 pub returns-in-40 : goal.returns-in-40
 unfolding operators
-returns-in-40 c = c.op-in-40.ensures ∙ one_here c.before.before (code "(") c.in-40.is LPAREN refl
+returns-in-40 c = c.op-in-40.ensures ∙ one_here (goal.at.returns-in-40 c).After-byte-b (code "(") c.in-40.is LPAREN refl
 
 pub returns-in-91 : goal.returns-in-91
 unfolding operators
-returns-in-91 c = c.op-in-91.ensures ∙ one_here c.before.before (code "[") c.in-91.is LBRACK refl
+returns-in-91 c = c.op-in-91.ensures ∙ one_here (goal.at.returns-in-91 c).After-byte-b (code "[") c.in-91.is LBRACK refl
 
 pub returns-in-123 : goal.returns-in-123
 unfolding operators
-returns-in-123 c = c.op-in-123.ensures ∙ one_here c.before.before (code "{") c.in-123.is LBRACE refl
+returns-in-123 c = c.op-in-123.ensures ∙ one_here (goal.at.returns-in-123 c).After-byte-b (code "{") c.in-123.is LBRACE refl
 
 pub returns-in-44 : goal.returns-in-44
 unfolding operators
-returns-in-44 c = c.op-in-44.ensures ∙ one_here c.before.before (code ",") c.in-44.is COMMA refl
+returns-in-44 c = c.op-in-44.ensures ∙ one_here (goal.at.returns-in-44 c).After-byte-b (code ",") c.in-44.is COMMA refl
 
 pub returns-in-41 : goal.returns-in-41
 unfolding operators
-returns-in-41 c = c.op-in-41.ensures ∙ one_here c.before.before (code ")") c.in-41.is RPAREN refl
+returns-in-41 c = c.op-in-41.ensures ∙ one_here (goal.at.returns-in-41 c).After-byte-b (code ")") c.in-41.is RPAREN refl
 
 pub returns-in-93 : goal.returns-in-93
 unfolding operators
-returns-in-93 c = c.op-in-93.ensures ∙ one_here c.before.before (code "]") c.in-93.is RBRACK refl
+returns-in-93 c = c.op-in-93.ensures ∙ one_here (goal.at.returns-in-93 c).After-byte-b (code "]") c.in-93.is RBRACK refl
 
 pub returns-in-125 : goal.returns-in-125
 unfolding operators
-returns-in-125 c = c.op-in-125.ensures ∙ one_here c.before.before (code "}") c.in-125.is RBRACE refl
+returns-in-125 c = c.op-in-125.ensures ∙ one_here (goal.at.returns-in-125 c).After-byte-b (code "}") c.in-125.is RBRACE refl
 
 pub returns-in-59 : goal.returns-in-59
 unfolding operators
-returns-in-59 c = c.op-in-59.ensures ∙ one_here c.before.before (code ";") c.in-59.is SEMICOLON refl
+returns-in-59 c = c.op-in-59.ensures ∙ one_here (goal.at.returns-in-59 c).After-byte-b (code ";") c.in-59.is SEMICOLON refl
 
 pub returns-in_default : goal.returns-in_default
-returns-in_default c = c.op-in_default.ensures ∙ none_here (goal.at.returns-in_default c).After-byte-b c.in_default.rest
+returns-in_default c = c.op-in_default.ensures ∙ none_here (goal.at.returns-in_default c).After-byte-b (search rules)

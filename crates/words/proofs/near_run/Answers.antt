@@ -7,7 +7,7 @@ use borrow.Author.Rules.{rules}
 use lib.Count.{count_trailing_zeros, trailing_of_zero}
 use lib.Dec.{lit<}
 use lib.ListN.{take, drop}
-use lib.Pow.{pow_pos, shl_exact}
+use lib.Pow.{shl_exact}
 use Rattle.swar.specs.Number.{number_of}
 use Rattle.swar.proofs.Numbers.{bytes_drop, number_mod}
 use Rattle.swar.proofs.Trailing.{zeros_lt}
@@ -59,7 +59,7 @@ returns c =
     let a = c.args in
     let len = count_trailing_zeros 64 c.others-marks.result / 8 in
     near a.src.now a.at len _ (run (goal.at.returns c).After-others-marks)
-    (ap (λ x. c.eight-bytes.result % x) (shift _ (shl-above c))
+    (ap (λ x. c.eight-bytes.result % x) (shift _ (overflow_shl-above c))
     ∙ ap (λ x. x % 2 ^ (8 * len)) c.eight-bytes.ensures
     ∙ number_mod (drop a.at a.src.now) len
     (bytes_drop a.at a.src.now (λ i. (c.type_inv.src i).fits)) (omega (arith, below (goal.at.returns c).Else-marks-eq0)))

@@ -1,6 +1,5 @@
 -- `words::run_at` meets its contract.
 use native.Mathlib.Omega.{arith}
-use borrow.Author.Rules.{rules}
 use lib.Count.{trailing_le}
 use Rattle.words.proofs.Marks.{run_zeros}
 use Rattle.words.proofs.run_at.Goals as goal

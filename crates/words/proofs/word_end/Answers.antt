@@ -1,11 +1,9 @@
-use Prim.Native.Nat.{◌+◌, ◌-◌, ◌^◌, ◌≤◌, ◌<◌}
-use mathlib.Core.Path.{◌≡◌, refl, sym, ◌∙◌}
+use Prim.Native.Nat.{◌+◌, ◌≤◌}
+use mathlib.Core.Path.{refl, sym, ◌∙◌}
 use native.Mathlib.Omega.{arith}
 use borrow.Author.Rules.{rules}
 use borrow.Author.Tests.{leb-true, leb-false}
-use lib.ListN.{length, drop}
-use Rattle.utf8.specs.Chars.{chars}
-use Rattle.words.specs.Word.{word_len}
+use lib.ListN.{length}
 use Rattle.words.proofs.Marks.{word_skip, run_room}
 use Rattle.words.proofs.word_end.Goals as goal
 use Rattle.words.proofs.word_end.Goals.{In-loop-n}

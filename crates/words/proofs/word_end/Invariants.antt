@@ -1,13 +1,9 @@
 -- `words::word_end` meets its contract. The loop's invariant: the run ends where it would from here.
-use Prim.Native.Nat.{◌+◌, ◌-◌, ◌^◌, ◌≤◌, ◌<◌}
-use mathlib.Core.Path.{◌≡◌, refl, sym, ◌∙◌}
-use native.Mathlib.Omega.{arith}
-use borrow.Author.Rules.{rules}
-use borrow.Author.Tests.{leb-true, leb-false}
+use Prim.Native.Nat.{◌+◌, ◌-◌, ◌^◌, ◌<◌}
+use mathlib.Core.Path.{◌≡◌}
 use lib.ListN.{length, drop}
 use Rattle.utf8.specs.Chars.{chars}
 use Rattle.words.specs.Word.{word_len}
-use Rattle.words.proofs.Marks.{word_skip, run_room}
 use Rattle.words.proofs.word_end.Given as goal
 
 abbrev pub invariant-loop-n : goal.invariant-loop-n

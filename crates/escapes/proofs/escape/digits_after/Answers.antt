@@ -1,4 +1,5 @@
 -- `escapes::escape::digits_after` meets its contract: each arm names its letter, and the default is none of them.
+use borrow.Author.Rules.{rules}
 use borrow.Author.Tests.{ne_eqb}
 use Rattle.escapes.specs.Escape.{following}
 use Rattle.escapes.proofs.escape.digits_after.Goals as goal
@@ -17,4 +18,4 @@ returns-in-85 c = rw c.in-85.is
 
 pub returns-in_default : goal.returns-in_default
 unfolding following
-returns-in_default c = simp (ne_eqb _ _ c.in_default.rest.0.0.1, ne_eqb _ _ c.in_default.rest.0.1, ne_eqb _ _ c.in_default.rest.1)
+returns-in_default c = simp (ne_eqb c.args.b 120 (search rules), ne_eqb c.args.b 117 (search rules), ne_eqb c.args.b 85 (search rules))

@@ -7,7 +7,6 @@ use Rattle.utf8.proofs.First.{there_fits}
 use Rattle.digits.specs.Digit.{digit_val}
 use Rattle.escapes.specs.Escape.{letter, single_escape}
 use Rattle.escapes.proofs.EscapeLaws.{escape_end, escape_letter, escape_quote, escape_octal, escape_hex}
-use borrow.Author.Rules.{rules}
 use Rattle.escapes.proofs.escape.escape_at.Goals as goal
 use Rattle.escapes.proofs.escape.escape_at.Goals.{After-letter_code-letter, Else-letter-ne0}
 

@@ -8,7 +8,6 @@ use Rattle.utf8.specs.Chars.{chars}
 use Rattle.escapes.specs.Escape.{hex_escape}
 use Rattle.escapes.proofs.DigitLaws.{digits_len}
 use Rattle.escapes.proofs.EscapeLaws.{following_most}
-use borrow.Author.Rules.{rules}
 use Rattle.escapes.proofs.escape.hex_at.Goals as goal
 
 pub returns-then-count-eq0 : goal.returns-then-count-eq0

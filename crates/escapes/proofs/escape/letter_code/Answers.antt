@@ -1,4 +1,5 @@
 -- `escapes::escape::letter_code` meets its contract: each arm names its letter, and the default is none of them.
+use borrow.Author.Rules.{rules}
 use borrow.Author.Tests.{ne_eqb}
 use Rattle.escapes.specs.Escape.{letter}
 use Rattle.escapes.proofs.escape.letter_code.Goals as goal
@@ -37,4 +38,4 @@ returns-in-92 c = rw c.in-92.is
 
 pub returns-in_default : goal.returns-in_default
 unfolding letter
-returns-in_default c = simp (ne_eqb _ _ c.in_default.rest.0.0.0.0.0.0.0.1, ne_eqb _ _ c.in_default.rest.0.0.0.0.0.0.1, ne_eqb _ _ c.in_default.rest.0.0.0.0.0.1, ne_eqb _ _ c.in_default.rest.0.0.0.0.1, ne_eqb _ _ c.in_default.rest.0.0.0.1, ne_eqb _ _ c.in_default.rest.0.0.1, ne_eqb _ _ c.in_default.rest.0.1, ne_eqb _ _ c.in_default.rest.1)
+returns-in_default c = simp (ne_eqb c.args.b 97 (search rules), ne_eqb c.args.b 98 (search rules), ne_eqb c.args.b 102 (search rules), ne_eqb c.args.b 110 (search rules), ne_eqb c.args.b 114 (search rules), ne_eqb c.args.b 116 (search rules), ne_eqb c.args.b 118 (search rules), ne_eqb c.args.b 92 (search rules))

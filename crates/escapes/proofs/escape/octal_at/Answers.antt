@@ -1,6 +1,5 @@
 -- `escapes::escape::octal_at` meets its contract: by those of its two calls.
 use Rattle.escapes.specs.Escape.{octal_escape}
-use borrow.Author.Rules.{rules}
 use Rattle.escapes.proofs.escape.octal_at.Goals as goal
 
 pub returns : goal.returns

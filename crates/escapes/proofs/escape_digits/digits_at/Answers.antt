@@ -1,13 +1,11 @@
-use Prim.Native.Nat.{◌+◌, ◌*◌, ◌-◌, ◌^◌, ◌≤◌, ◌<◌}
-use mathlib.Core.Path.{◌≡◌, sym, ap, ◌∙◌}
+use Prim.Native.Nat.{◌+◌, ◌*◌, ◌≤◌, ◌<◌}
+use mathlib.Core.Path.{sym, ap, ◌∙◌}
 use native.Mathlib.Omega.{arith}
 use borrow.Author.Rules.{rules}
 use lib.Dec.{lit<}
-use lib.ListN.{drop, get_or}
-use Rattle.utf8.specs.Chars.{chars}
+use lib.ListN.{get_or}
 use Rattle.digits.specs.Digit.{digit_val}
-use Rattle.escapes.specs.EscapeDigits.{escape_digits}
-use Rattle.escapes.proofs.DigitLaws.{grown, grown_more, grown_stop, left_of, none_read, all_read, next_cut, next_off, next_digit, grow, room}
+use Rattle.escapes.proofs.DigitLaws.{grown, grown_more, grown_stop, none_read, all_read, next_cut, next_off, next_digit, grow, room}
 use Rattle.escapes.proofs.escape_digits.digits_at.Goals as goal
 use Rattle.escapes.proofs.escape_digits.digits_at.Goals.{Else-base-d}
 
