@@ -4,7 +4,6 @@ use mathlib.Core.Path.{◌≡◌, sym, ap, ◌∙◌}
 use mathlib.Core.Bool.{true}
 use native.Mathlib.Omega.{arith}
 use borrow.Author.Rules.{rules}
-use borrow.Author.Tests.{not-true, not-false}
 use Rattle.position.specs.declared.File.{File}
 use Rattle.position.specs.Place.{fitting}
 use Rattle.position.proofs.Place.{fit}
@@ -32,7 +31,7 @@ placed c = c.before.before.before.before.if1.false
 pub returns-then-not-fits : goal.returns-then-not-fits
 returns-then-not-fits c =
     let a = c.args in
-    lined_table a.self a.table.now (placed c.before) (sym (fits_file c.before) ∙ not-true _ c.if-not-fits.true)
+    lined_table a.self a.table.now (placed c.before) (sym (fits_file c.before) ∙ c.if-not-fits.true)
 
 -- nor the size
 sized : (c : Else-not-fits) → let a = c.args in a.self.offset ≤ a.self.size
@@ -40,12 +39,12 @@ sized c = c.if-self-2.false
 
 -- and the file fits its table
 fitted : (c : Else-not-fits) → let a = c.args in fitting (file_of a.self) a.table.now ≡ true
-fitted c = sym (fits_file c.before) ∙ not-false _ c.if-not-fits.false
+fitted c = sym (fits_file c.before) ∙ c.if-not-fits.false
 
 pub returns-then-not-may_be_last : goal.returns-then-not-may_be_last
 returns-then-not-may_be_last c =
     let a = c.args in
-    lined_other a.self a.table.now (placed c.before.before.before) (sized (goal.at.returns-then-not-may_be_last c).Else-not-fits) (fitted (goal.at.returns-then-not-may_be_last c).Else-not-fits) (sym c.may_be_last.ensures ∙ not-true _ c.if-not-may_be_last.true)
+    lined_other a.self a.table.now (placed c.before.before.before) (sized (goal.at.returns-then-not-may_be_last c).Else-not-fits) (fitted (goal.at.returns-then-not-may_be_last c).Else-not-fits) (sym c.may_be_last.ensures ∙ c.if-not-may_be_last.true)
 
 pub overflow_sub-result : goal.overflow_sub-result
 overflow_sub-result c = omega (arith, fit _ _ (fitted (goal.at.overflow_sub-result c).Else-not-fits))
@@ -59,4 +58,4 @@ bounds-table-self c = omega (arith, fit _ _ (fitted (goal.at.bounds-table-self c
 pub returns : goal.returns
 returns c =
     let a = c.args in
-    lined_last a.self a.table.now (placed c.before.before.before.before.before.before) (sized (goal.at.returns c).Else-not-fits) (fitted (goal.at.returns c).Else-not-fits) (sym c.may_be_last.ensures ∙ not-false _ c.if-not-may_be_last.false)
+    lined_last a.self a.table.now (placed c.before.before.before.before.before.before) (sized (goal.at.returns c).Else-not-fits) (fitted (goal.at.returns c).Else-not-fits) (sym c.may_be_last.ensures ∙ c.if-not-may_be_last.false)
