@@ -1,7 +1,6 @@
 -- `State::fits` meets its contract: each test of the code is one of the definition's.
 use mathlib.Core.Path.{◌≡◌, sym, ◌∙◌}
 use mathlib.Core.Bool.{true}
-use borrow.Author.Rules.{rules}
 use borrow.Author.Tests.{le-leb, lt-leb}
 use Rattle.state.specs.Fits.{fits_lines}
 use Rattle.state.proofs.state.State.fits.Goals as goal

@@ -1,6 +1,5 @@
 -- `State::fits_alone` meets its contract: each test of the code is one of the definition's.
 use mathlib.Core.Path.{◌≡◌, sym, ◌∙◌}
-use borrow.Author.Rules.{rules}
 use borrow.Author.Tests.{le-leb, lt-leb, lt-ltb, le-ltb}
 use Rattle.position.specs.Place.{in_range}
 use Rattle.state.specs.declared.state.State.{State}
