@@ -1,6 +1,5 @@
 -- `error` meets its contract: past the test the state fits alone, and the list is asked.
 use mathlib.Core.Path.{sym, ◌∙◌}
-use borrow.Author.Rules.{rules}
 use Rattle.queries.specs.Queries.{error_in}
 use Rattle.queries.proofs.error.Goals as goal
 

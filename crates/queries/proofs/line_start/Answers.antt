@@ -1,6 +1,5 @@
 -- `line_start` meets its contract: past the test the state fits the lines, and its file is asked.
 use mathlib.Core.Path.{sym, ◌∙◌}
-use borrow.Author.Rules.{rules}
 use Rattle.queries.specs.Queries.{line_start_in}
 use Rattle.queries.proofs.line_start.Goals as goal
 

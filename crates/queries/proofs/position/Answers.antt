@@ -1,6 +1,5 @@
 -- `position` meets its contract: past the test the state fits the lines, and its file is asked.
 use mathlib.Core.Path.{sym, ◌∙◌}
-use borrow.Author.Rules.{rules}
 use Rattle.queries.specs.Queries.{position_in}
 use Rattle.queries.proofs.position.Goals as goal
 
