@@ -1,13 +1,10 @@
 -- `lines::write_starts` meets its contract. The loop's invariant: what is left of the characters gives the starts still to be written.
 use Prim.Native.Nat.{◌-◌, ◌<◌}
-use mathlib.Core.Path.{◌≡◌, refl, sym, ap, ◌∙◌}
-use native.Mathlib.Omega.{arith}
-use borrow.Author.Rules.{rules}
-use lib.ListN.{length, take, drop, length-set}
+use mathlib.Core.Path.{◌≡◌}
+use lib.ListN.{length, take, drop}
 use lib.Seq.{sets}
 use Rattle.utf8.specs.Chars.{chars}
 use Rattle.lines.specs.Starts.{starts_read}
-use Rattle.lines.proofs.Writing.{sets_past, sets_step, starts_end, starts_over, starts_stop, starts_feed, starts_other}
 use Rattle.lines.proofs.write_starts.Given as goal
 
 abbrev pub invariant-loop-o : goal.invariant-loop-o

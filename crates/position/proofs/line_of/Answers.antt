@@ -1,9 +1,5 @@
-use Prim.Native.Nat.{◌≤◌, ◌-◌, ◌+◌}
-use mathlib.Core.Path.{◌≡◌}
 use native.Mathlib.Omega.{arith}
 use borrow.Author.Rules.{rules}
-use lib.ListN.{length, drop}
-use Rattle.position.specs.Lines.{line_of}
 use Rattle.position.proofs.Lines.{line_over, line_stop, line_next}
 use Rattle.position.proofs.line_of.Goals as goal
 

@@ -1,11 +1,8 @@
 -- `line_of` meets its contract. The loop's invariant: the line is that of the starts from here on, after those that were passed.
 use Prim.Native.Nat.{◌≤◌, ◌-◌, ◌+◌}
 use mathlib.Core.Path.{◌≡◌}
-use native.Mathlib.Omega.{arith}
-use borrow.Author.Rules.{rules}
 use lib.ListN.{length, drop}
 use Rattle.position.specs.Lines.{line_of}
-use Rattle.position.proofs.Lines.{line_over, line_stop, line_next}
 use Rattle.position.proofs.line_of.Given as goal
 
 abbrev pub invariant-loop-line : goal.invariant-loop-line

@@ -1,11 +1,8 @@
-use Prim.Native.Nat.{◌+◌, ◌-◌, ◌≤◌, ◌<◌}
-use mathlib.Core.Path.{◌≡◌, sym, ap, ◌∙◌}
+use Prim.Native.Nat.{◌+◌}
+use mathlib.Core.Path.{sym, ap, ◌∙◌}
 use native.Mathlib.Nat.{zero-add}
 use native.Mathlib.Omega.{arith}
-use borrow.Author.Rules.{rules}
-use lib.ListN.{length, take, drop}
-use Rattle.utf8.specs.Chars.{chars}
-use Rattle.lines.specs.Starts.{starts_read}
+use lib.ListN.{length}
 use Rattle.lines.proofs.Writing.{counted_all, counted_one, starts_end, starts_over, starts_stop, starts_feed, starts_other}
 use Rattle.lines.proofs.count.count_starts.Goals as goal
 

@@ -1,13 +1,9 @@
 -- `lines::count::count_starts` meets its contract. The loop's invariant: what was counted and the starts that what is left gives are the whole.
 use Prim.Native.Nat.{◌+◌, ◌-◌, ◌≤◌, ◌<◌}
-use mathlib.Core.Path.{◌≡◌, sym, ap, ◌∙◌}
-use native.Mathlib.Nat.{zero-add}
-use native.Mathlib.Omega.{arith}
-use borrow.Author.Rules.{rules}
+use mathlib.Core.Path.{◌≡◌}
 use lib.ListN.{length, take, drop}
 use Rattle.utf8.specs.Chars.{chars}
 use Rattle.lines.specs.Starts.{starts_read}
-use Rattle.lines.proofs.Writing.{counted_all, counted_one, starts_end, starts_over, starts_stop, starts_feed, starts_other}
 use Rattle.lines.proofs.count.count_starts.Given as goal
 
 abbrev pub invariant-loop-o : goal.invariant-loop-o

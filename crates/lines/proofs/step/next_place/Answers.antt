@@ -1,6 +1,5 @@
 -- `lines::step::next_place` meets its contract: a byte of ASCII is a character.
 use native.Mathlib.Omega.{arith}
-use borrow.Author.Rules.{rules}
 use Rattle.utf8.proofs.First.{char_at_ascii, there_fits}
 use Rattle.lines.proofs.step.next_place.Goals as goal
 

@@ -1,7 +1,6 @@
 -- `layout::put_token` meets its contract: the writes are the list's, one by one, and each flag's number is its bit.
 use native.Mathlib.Omega.{arith}
 use lib.ListN.{length, length-set}
-use borrow.Author.Rules.{rules}
 use borrow.Author.Tests.{lt-leb, le-leb}
 use Rattle.parts.specs.Layout.{token_width}
 use Rattle.parts.proofs.layout.put_token.Goals as goal

@@ -1,6 +1,5 @@
 -- `part::shown` meets its contract: the part says which of the two buffers it is of.
 use mathlib.Core.Path.{◌∙◌}
-use borrow.Author.Rules.{rules}
 use Rattle.parts.specs.Shown.{shown_of}
 use Rattle.parts.proofs.part.shown.Goals as goal
 

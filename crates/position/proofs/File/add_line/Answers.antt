@@ -2,8 +2,6 @@
 use mathlib.Core.Path.{◌≡◌, sym, ◌∙◌}
 use mathlib.Core.Bool.{true}
 use native.Mathlib.Omega.{arith}
-use borrow.Author.Rules.{rules}
-use borrow.Author.Tests.{not-true, not-false}
 use Rattle.position.specs.Place.{fitting}
 use Rattle.position.specs.Adding.{starting}
 use Rattle.position.proofs.Place.{fit}
@@ -12,11 +10,11 @@ use Rattle.position.proofs.File.add_line.Goals as goal
 use Rattle.position.proofs.File.add_line.Goals.{Else-not-fits, Else-offset-self}
 
 pub returns-then-not-fits : goal.returns-then-not-fits
-returns-then-not-fits c = sym (add_unfit _ _ _ (sym c.fits.ensures ∙ not-true _ c.if-not-fits.true))
+returns-then-not-fits c = sym (add_unfit _ _ _ (sym c.fits.ensures ∙ c.if-not-fits.true))
 
 -- past the first test the file fits its table
 fitted : (c : Else-not-fits) → let a = c.args in fitting a.self a.table.now ≡ true
-fitted c = sym c.fits.ensures ∙ not-false _ c.if-not-fits.false
+fitted c = sym c.fits.ensures ∙ c.if-not-fits.false
 
 pub overflow_sub-lines : goal.overflow_sub-lines
 overflow_sub-lines c = omega (arith, fit _ _ (fitted (goal.at.overflow_sub-lines c).Else-not-fits))

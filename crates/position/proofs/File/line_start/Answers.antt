@@ -2,8 +2,6 @@
 use mathlib.Core.Path.{◌≡◌, sym, ◌∙◌}
 use mathlib.Core.Bool.{true}
 use native.Mathlib.Omega.{arith}
-use borrow.Author.Rules.{rules}
-use borrow.Author.Tests.{not-true, not-false}
 use Rattle.position.specs.Place.{fitting}
 use Rattle.position.proofs.Place.{fit}
 use Rattle.position.proofs.Queries.{start_unfit, start_unread, start_zero, start_past, start_above, start_gave}
@@ -11,11 +9,11 @@ use Rattle.position.proofs.File.line_start.Goals as goal
 use Rattle.position.proofs.File.line_start.Goals.{Else-not-fits}
 
 pub returns-then-not-fits : goal.returns-then-not-fits
-returns-then-not-fits c = sym (start_unfit _ _ _ _ (sym c.fits.ensures ∙ not-true _ c.if-not-fits.true))
+returns-then-not-fits c = sym (start_unfit _ _ _ _ (sym c.fits.ensures ∙ c.if-not-fits.true))
 
 -- past the first test the file fits its table
 fitted : (c : Else-not-fits) → let a = c.args in fitting a.self a.table.now ≡ true
-fitted c = sym c.fits.ensures ∙ not-false _ c.if-not-fits.false
+fitted c = sym c.fits.ensures ∙ c.if-not-fits.false
 
 pub returns-then-offset-self : goal.returns-then-offset-self
 returns-then-offset-self c = sym (start_unread _ _ _ _ (fitted (goal.at.returns-then-offset-self c).Else-not-fits) c.if-offset-self.true)

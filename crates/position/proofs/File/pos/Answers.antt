@@ -3,19 +3,18 @@ use Prim.Native.Nat.{◌+◌}
 use mathlib.Core.Path.{◌≡◌, sym, ◌∙◌}
 use mathlib.Core.Bool.{true}
 use native.Mathlib.Omega.{arith}
-use borrow.Author.Rules.{rules}
-use borrow.Author.Tests.{not-true, not-false, leb-true}
+use borrow.Author.Tests.{leb-true}
 use Rattle.position.specs.Place.{max_position, in_range}
 use Rattle.position.proofs.Queries.{pos_unplaced, pos_outside, pos_gave}
 use Rattle.position.proofs.File.pos.Goals as goal
 use Rattle.position.proofs.File.pos.Goals.{Else-not-in_range}
 
 pub returns-then-not-in_range : goal.returns-then-not-in_range
-returns-then-not-in_range c = sym (pos_unplaced _ _ (sym c.in_range.ensures ∙ not-true _ c.if-not-in_range.true))
+returns-then-not-in_range c = sym (pos_unplaced _ _ (sym c.in_range.ensures ∙ c.if-not-in_range.true))
 
 -- past the first test the file is inRange
 ok : (c : Else-not-in_range) → in_range c.args.self ≡ true
-ok c = sym c.in_range.ensures ∙ not-false _ c.if-not-in_range.false
+ok c = sym c.in_range.ensures ∙ c.if-not-in_range.false
 
 pub returns-then-offset-self : goal.returns-then-offset-self
 returns-then-offset-self c = sym (pos_outside _ _ (ok (goal.at.returns-then-offset-self c).Else-not-in_range) c.if-offset-self.true)

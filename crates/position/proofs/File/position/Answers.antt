@@ -3,8 +3,6 @@ use Prim.Native.Nat.{◌-◌}
 use mathlib.Core.Path.{◌≡◌, sym, ◌∙◌}
 use mathlib.Core.Bool.{true}
 use native.Mathlib.Omega.{arith}
-use borrow.Author.Rules.{rules}
-use borrow.Author.Tests.{not-true, not-false}
 use Rattle.position.specs.Place.{fitting}
 use Rattle.position.proofs.Place.{fit, starts_length}
 use Rattle.position.proofs.Queries.{position_unfit, position_below, position_above, position_read, Found, found}
@@ -12,11 +10,11 @@ use Rattle.position.proofs.File.position.Goals as goal
 use Rattle.position.proofs.File.position.Goals.{After-line_of-line, Else-not-fits}
 
 pub returns-then-not-fits : goal.returns-then-not-fits
-returns-then-not-fits c = sym (position_unfit _ _ _ (sym c.fits.ensures ∙ not-true _ c.if-not-fits.true))
+returns-then-not-fits c = sym (position_unfit _ _ _ (sym c.fits.ensures ∙ c.if-not-fits.true))
 
 -- past the first test the file fits its table
 fitted : (c : Else-not-fits) → let a = c.args in fitting a.self a.table.now ≡ true
-fitted c = sym c.fits.ensures ∙ not-false _ c.if-not-fits.false
+fitted c = sym c.fits.ensures ∙ c.if-not-fits.false
 
 pub returns-then-p-base : goal.returns-then-p-base
 returns-then-p-base c = sym (position_below _ _ _ (fitted (goal.at.returns-then-p-base c).Else-not-fits) c.if-p-base.true)
@@ -29,20 +27,20 @@ slice_bounds-line_of-end c = sym (starts_length _ _ (fit _ _ (fitted (goal.at.sl
 
 line_found : (c : After-line_of-line) →
     let a = c.args in
-    Found a.self a.table.now (a.p - a.self.base) c.line_of-line.result
-line_found c = found _ _ (fit _ _ (fitted c.before.before.before.before.before)) _ c.line_of-line.ensures
+    fitting a.self a.table.now ≡ true → Found a.self a.table.now (a.p - a.self.base) c.line_of-line.result
+line_found c e = found _ _ (fit _ _ e) _ c.line_of-line.ensures
 
 pub overflow_sub-column : goal.overflow_sub-column
-overflow_sub-column c = omega (arith, line_found (goal.at.overflow_sub-column c).After-line_of-line)
+overflow_sub-column c = omega (arith, line_found (goal.at.overflow_sub-column c).After-line_of-line (fitted (goal.at.overflow_sub-column c).Else-not-fits))
 
 pub offset_bounds-table-line : goal.offset_bounds-table-line
-offset_bounds-table-line c = omega (arith, line_found (goal.at.offset_bounds-table-line c).After-line_of-line, fit _ _ (fitted (goal.at.offset_bounds-table-line c).Else-not-fits))
+offset_bounds-table-line c = omega (arith, line_found (goal.at.offset_bounds-table-line c).After-line_of-line (fitted (goal.at.offset_bounds-table-line c).Else-not-fits), fit _ _ (fitted (goal.at.offset_bounds-table-line c).Else-not-fits))
 
 pub bounds-table-line : goal.bounds-table-line
-bounds-table-line c = omega (arith, line_found (goal.at.bounds-table-line c).After-line_of-line, fit _ _ (fitted (goal.at.bounds-table-line c).Else-not-fits))
+bounds-table-line c = omega (arith, line_found (goal.at.bounds-table-line c).After-line_of-line (fitted (goal.at.bounds-table-line c).Else-not-fits), fit _ _ (fitted (goal.at.bounds-table-line c).Else-not-fits))
 
 pub overflow_sub-column-2 : goal.overflow_sub-column-2
-overflow_sub-column-2 c = omega (arith, line_found (goal.at.overflow_sub-column-2 c).After-line_of-line)
+overflow_sub-column-2 c = omega (arith, line_found (goal.at.overflow_sub-column-2 c).After-line_of-line (fitted (goal.at.overflow_sub-column-2 c).Else-not-fits))
 
 pub overflow_add-column : goal.overflow_add-column
 overflow_add-column c = omega (arith, fit _ _ (fitted (goal.at.overflow_add-column c).Else-not-fits))

@@ -1,7 +1,6 @@
 -- `layout::number_at` meets its contract: after the last number the default stands.
 use mathlib.Core.Path.{sym}
 use lib.ListN.{get_or-eq_default}
-use borrow.Author.Rules.{rules}
 use Rattle.state.proofs.layout.number_at.Goals as goal
 
 pub returns-else-at-n : goal.returns-else-at-n

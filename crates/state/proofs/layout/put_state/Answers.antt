@@ -1,7 +1,6 @@
 -- `layout::put_state` meets its contract: the writes are the list's, one by one, and the mark's number is its bit.
 use native.Mathlib.Omega.{arith}
 use lib.ListN.{length, length-set}
-use borrow.Author.Rules.{rules}
 use borrow.Author.Tests.{lt-leb, le-leb}
 use Rattle.state.specs.Layout.{state_width}
 use Rattle.state.proofs.layout.put_state.Goals as goal

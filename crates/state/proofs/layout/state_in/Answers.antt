@@ -1,5 +1,4 @@
 -- `layout::state_in` meets its contract: each field is the number at its index.
-use borrow.Author.Rules.{rules}
 use Rattle.state.proofs.layout.state_in.Goals as goal
 
 pub returns : goal.returns

@@ -1,7 +1,6 @@
 -- `State::fits_alone` meets its contract: each test of the code is one of the definition's.
 use mathlib.Core.Path.{◌≡◌, sym, ◌∙◌}
-use borrow.Author.Rules.{rules}
-use borrow.Author.Tests.{le-leb, lt-leb, lt-ltb, le-ltb, not-true, not-false}
+use borrow.Author.Tests.{le-leb, lt-leb, lt-ltb, le-ltb}
 use Rattle.position.specs.Place.{in_range}
 use Rattle.state.specs.declared.state.State.{State}
 use Rattle.state.specs.Fits.{file_of, fits_line, fits_alone}
@@ -28,7 +27,7 @@ returns-then-not-in_range c =
       le-leb _ _ c.if-self.false,
       le-leb _ _ c.if-self-2.false,
       le-leb _ _ c.if-self-lt1.false,
-      sym (ranged (goal.at.returns-then-not-in_range c).After-in_range) ∙ not-true _ c.if-not-in_range.true,
+      sym (ranged (goal.at.returns-then-not-in_range c).After-in_range) ∙ c.if-not-in_range.true,
     )
 
 -- ---- after the test of the line
@@ -43,16 +42,16 @@ module _ (c : After-may_be_last) where
         le-leb _ _ c.if-self.false,
         le-leb _ _ c.if-self-2.false,
         le-leb _ _ c.if-self-lt1.false,
-        sym (ranged c.before.before) ∙ not-false _ c.if-not-in_range.false,
+        sym (ranged c.before.before) ∙ c.if-not-in_range.false,
       )
 
 pub returns-then-not-may_be_last : goal.returns-then-not-may_be_last
-returns-then-not-may_be_last c = sym (left (goal.at.returns-then-not-may_be_last c).After-may_be_last ∙ rw (sym c.may_be_last.ensures ∙ not-true _ c.if-not-may_be_last.true))
+returns-then-not-may_be_last c = sym (left (goal.at.returns-then-not-may_be_last c).After-may_be_last ∙ rw (sym c.may_be_last.ensures ∙ c.if-not-may_be_last.true))
 
 pub returns-then-self-gt1 : goal.returns-then-self-gt1
 returns-then-self-gt1 c =
-    sym (left (goal.at.returns-then-self-gt1 c).After-may_be_last ∙ rw (sym c.may_be_last.ensures ∙ not-false _ c.if-not-may_be_last.false, lt-ltb _ _ c.if-self-gt1.true))
+    sym (left (goal.at.returns-then-self-gt1 c).After-may_be_last ∙ rw (sym c.may_be_last.ensures ∙ c.if-not-may_be_last.false, lt-ltb _ _ c.if-self-gt1.true))
 
 pub returns : goal.returns
 returns c =
-    sym (left (goal.at.returns c).After-may_be_last ∙ rw (sym c.may_be_last.ensures ∙ not-false _ c.if-not-may_be_last.false, le-ltb _ _ c.if-self-gt1.false))
+    sym (left (goal.at.returns c).After-may_be_last ∙ rw (sym c.may_be_last.ensures ∙ c.if-not-may_be_last.false, le-ltb _ _ c.if-self-gt1.false))

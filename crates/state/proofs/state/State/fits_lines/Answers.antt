@@ -1,11 +1,7 @@
 -- `State::fits_lines` meets its contract: its tests are the definition's, but for those that the table answers.
-use Prim.Native.Nat.{◌≤◌}
-use mathlib.Core.Path.{◌≡◌, sym, ap, ◌∙◌}
+use mathlib.Core.Path.{◌≡◌, sym, ◌∙◌}
 use mathlib.Core.Bool.{true}
 use native.Mathlib.Omega.{arith}
-use borrow.Author.Rules.{rules}
-use borrow.Author.Tests.{not-true, not-false}
-use Rattle.position.specs.declared.File.{File}
 use Rattle.position.specs.Place.{fitting}
 use Rattle.position.proofs.Place.{fit}
 use Rattle.state.specs.Fits.{file_of}
@@ -21,31 +17,19 @@ returns-then-self-2 c =
     let a = c.args in
     lined_size a.self a.table.now c.if-self.false c.if-self-2.true
 
--- what it says
-fits_file : (c : tie.After-fits2) → let a = (start c).args in c.fits2.result ≡ fitting (file_of a.self) a.table.now
-fits_file c = c.fits2.ensures ∙ ap (λ (f : File). fitting f (start c).args.table.now) c.before.file.ensures
-
--- the offset is not above the place
-placed : (c : tie.After-fits2) → let a = (start c).args in a.self.offset ≤ a.self.place
-placed c = c.before.before.before.before.if1.false
-
 pub returns-then-not-fits : goal.returns-then-not-fits
 returns-then-not-fits c =
     let a = c.args in
-    lined_table a.self a.table.now (placed c.before) (sym (fits_file c.before) ∙ not-true _ c.if-not-fits.true)
+    lined_table a.self a.table.now (omega arith) (rw c.file.ensures at (sym c.fits.ensures ∙ c.if-not-fits.true))
 
--- nor the size
-sized : (c : Else-not-fits) → let a = c.args in a.self.offset ≤ a.self.size
-sized c = c.if-self-2.false
-
--- and the file fits its table
+-- past the test, the file fits its table
 fitted : (c : Else-not-fits) → let a = c.args in fitting (file_of a.self) a.table.now ≡ true
-fitted c = sym (fits_file c.before) ∙ not-false _ c.if-not-fits.false
+fitted c = rw c.file.ensures at (sym c.fits.ensures ∙ c.if-not-fits.false)
 
 pub returns-then-not-may_be_last : goal.returns-then-not-may_be_last
 returns-then-not-may_be_last c =
     let a = c.args in
-    lined_other a.self a.table.now (placed c.before.before.before) (sized (goal.at.returns-then-not-may_be_last c).Else-not-fits) (fitted (goal.at.returns-then-not-may_be_last c).Else-not-fits) (sym c.may_be_last.ensures ∙ not-true _ c.if-not-may_be_last.true)
+    lined_other a.self a.table.now (omega arith) (omega arith) (fitted (goal.at.returns-then-not-may_be_last c).Else-not-fits) (sym c.may_be_last.ensures ∙ c.if-not-may_be_last.true)
 
 pub overflow_sub-result : goal.overflow_sub-result
 overflow_sub-result c = omega (arith, fit _ _ (fitted (goal.at.overflow_sub-result c).Else-not-fits))
@@ -59,4 +43,4 @@ bounds-table-self c = omega (arith, fit _ _ (fitted (goal.at.bounds-table-self c
 pub returns : goal.returns
 returns c =
     let a = c.args in
-    lined_last a.self a.table.now (placed c.before.before.before.before.before.before) (sized (goal.at.returns c).Else-not-fits) (fitted (goal.at.returns c).Else-not-fits) (sym c.may_be_last.ensures ∙ not-false _ c.if-not-may_be_last.false)
+    lined_last a.self a.table.now (omega arith) (omega arith) (fitted (goal.at.returns c).Else-not-fits) (sym c.may_be_last.ensures ∙ c.if-not-may_be_last.false)
