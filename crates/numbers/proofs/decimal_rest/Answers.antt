@@ -3,7 +3,6 @@ use mathlib.Core.Path.{sym, ◌∙◌}
 use native.Mathlib.Omega.{arith}
 use Rattle.basics.proofs.Lists.{reach}
 use Rattle.numbers.proofs.Numerals.{rest_point, rest_plain}
-use borrow.Author.Rules.{rules}
 use Rattle.numbers.proofs.decimal_rest.Goals as goal
 
 pub overflow_add-at : goal.overflow_add-at

@@ -5,7 +5,6 @@ use lib.ListN.{drop}
 use Rattle.utf8.specs.Chars.{chars}
 use Rattle.numbers.specs.Run.{strict_run}
 use Rattle.numbers.proofs.Numerals.{exponent_bad, exponent_none, exponent_good}
-use borrow.Author.Rules.{rules}
 use Rattle.numbers.proofs.exponent_digits.Goals as goal
 
 pub returns-then-d : goal.returns-then-d

@@ -3,7 +3,6 @@ use mathlib.Core.Path.{sym, ◌∙◌}
 use native.Mathlib.Omega.{arith}
 use Rattle.basics.proofs.Lists.{reach}
 use Rattle.numbers.proofs.Numerals.{finish_lower, finish_upper, finish_end}
-use borrow.Author.Rules.{rules}
 use Rattle.numbers.proofs.finish_number.Goals as goal
 
 pub overflow_add-at : goal.overflow_add-at

@@ -2,7 +2,6 @@
 use mathlib.Core.Path.{sym, ◌∙◌}
 use borrow.Author.Tests.{le-leb, lt-leb}
 use Rattle.numbers.proofs.Numerals.{digit_next}
-use borrow.Author.Rules.{rules}
 use Rattle.numbers.proofs.goes_on.Goals as goal
 
 pub returns-then-base-le8 : goal.returns-then-base-le8

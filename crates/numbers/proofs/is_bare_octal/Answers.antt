@@ -8,7 +8,6 @@ use Rattle.basics.proofs.Lists.{reach}
 use Rattle.numbers.specs.Run.{is_digit_or_underscore}
 use Rattle.numbers.specs.Number.{makes_decimal}
 use Rattle.numbers.proofs.Numerals.{octal_is}
-use borrow.Author.Rules.{rules}
 use Rattle.numbers.proofs.is_bare_octal.Goals as goal
 use Rattle.numbers.proofs.is_bare_octal.Goals.{After-is_digit_or_underscore}
 

@@ -3,7 +3,6 @@ use mathlib.Core.Path.{sym, ◌∙◌}
 use native.Mathlib.Omega.{arith}
 use Rattle.basics.proofs.Lists.{reach}
 use Rattle.numbers.proofs.Numerals.{bare_octal, bare_decimal}
-use borrow.Author.Rules.{rules}
 use Rattle.numbers.proofs.scan_bare_zero.Goals as goal
 
 pub overflow_add-at : goal.overflow_add-at

@@ -1,7 +1,6 @@
 -- `numbers::scan_decimal` meets its contract: by what the run says.
 use mathlib.Core.Path.{sym, ap, ◌∙◌}
 use Rattle.numbers.proofs.Numerals.{decimal_bad, decimal_good}
-use borrow.Author.Rules.{rules}
 use Rattle.numbers.proofs.scan_decimal.Goals as goal
 
 pub returns-then-d : goal.returns-then-d

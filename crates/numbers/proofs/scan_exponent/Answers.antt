@@ -3,7 +3,6 @@ use mathlib.Core.Path.{sym, ap, ◌∙◌}
 use native.Mathlib.Omega.{arith}
 use Rattle.basics.proofs.Lists.{reach}
 use Rattle.numbers.proofs.Numerals.{is_sign, sign_ascii, exponent_signed, exponent_plain}
-use borrow.Author.Rules.{rules}
 use Rattle.numbers.proofs.scan_exponent.Goals as goal
 
 pub overflow_add-at : goal.overflow_add-at

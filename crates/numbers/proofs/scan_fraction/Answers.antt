@@ -1,7 +1,6 @@
 -- `numbers::scan_fraction` meets its contract: by what the run says.
 use mathlib.Core.Path.{sym, ap, ◌∙◌}
 use Rattle.numbers.proofs.Numerals.{fraction_bad, fraction_good}
-use borrow.Author.Rules.{rules}
 use Rattle.numbers.proofs.scan_fraction.Goals as goal
 
 pub returns-then-d : goal.returns-then-d

@@ -4,7 +4,6 @@ use native.Mathlib.Omega.{arith}
 use lib.ListN.{get_or}
 use Rattle.basics.proofs.Lists.{reach}
 use Rattle.numbers.proofs.Placed.{number_illegal, number_imaginary, number_other}
-use borrow.Author.Rules.{rules}
 use Rattle.numbers.proofs.scan_number.Goals as goal
 
 pub returns-then-n-eq-ILLEGAL : goal.returns-then-n-eq-ILLEGAL

@@ -1,7 +1,6 @@
 -- `numbers::scan_number_without_i` meets its contract: by the first byte.
 use mathlib.Core.Path.{sym, ◌∙◌}
 use native.Mathlib.Omega.{arith}
-use borrow.Author.Rules.{rules}
 use Rattle.basics.proofs.Lists.{reach}
 use Rattle.numbers.proofs.Numerals.{without_point, without_zero, without_other}
 use Rattle.numbers.proofs.scan_number_without_i.Goals as goal

@@ -10,7 +10,6 @@ use Rattle.digits.specs.Digit.{is_decimal}
 use Rattle.numbers.specs.Run.{Run, digit_run}
 use Rattle.numbers.specs.Number.{number_at, prefixed, prefixed_digits}
 use Rattle.numbers.proofs.Numerals.{prefixed_there, prefixed_bad, prefixed_wrong, prefixed_good, no_digit}
-use borrow.Author.Rules.{rules}
 use Rattle.numbers.proofs.scan_prefixed.Goals as goal
 use Rattle.numbers.proofs.scan_prefixed.Goals.{After-goes_on, After-scan_digits-d}
 

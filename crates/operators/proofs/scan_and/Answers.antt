@@ -1,6 +1,5 @@
 -- `operators::scan_and` meets its contract: by the two functions that it calls.
 use mathlib.Core.Path.{◌∙◌}
-use borrow.Author.Rules.{rules}
 use Rattle.operators.proofs.scan_and.Goals as goal
 
 pub returns : goal.returns

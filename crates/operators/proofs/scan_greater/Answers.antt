@@ -1,6 +1,5 @@
 -- `operators::scan_greater` meets its contract: by the two functions that it calls.
 use mathlib.Core.Path.{◌∙◌}
-use borrow.Author.Rules.{rules}
 use Rattle.operators.proofs.scan_greater.Goals as goal
 
 pub returns : goal.returns

@@ -1,6 +1,5 @@
 -- `operators::scan_less` meets its contract: by the two functions that it calls.
 use mathlib.Core.Path.{◌∙◌}
-use borrow.Author.Rules.{rules}
 use Rattle.operators.proofs.scan_less.Goals as goal
 
 pub returns : goal.returns

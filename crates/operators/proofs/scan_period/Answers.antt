@@ -1,7 +1,6 @@
 -- `operators::scan_period` meets its contract: by the two bytes after the point.
 use mathlib.Core.Path.{◌∙◌}
 use borrow.Author.Tests.{eq-eqb, ne_eqb}
-use borrow.Author.Rules.{rules}
 use Rattle.operators.proofs.scan_period.Goals as goal
 
 pub returns-then-b-ne46 : goal.returns-then-b-ne46

@@ -1,7 +1,6 @@
 -- `operators::scan_switch2` meets its contract: the test on the byte.
 use mathlib.Core.Path.{◌∙◌}
 use borrow.Author.Tests.{eq-eqb, ne_eqb}
-use borrow.Author.Rules.{rules}
 use Rattle.operators.proofs.scan_switch2.Goals as goal
 
 pub returns-then-b-eq61 : goal.returns-then-b-eq61

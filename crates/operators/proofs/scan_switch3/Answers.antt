@@ -1,7 +1,6 @@
 -- `operators::scan_switch3` meets its contract: the tests on the byte, in turn.
 use mathlib.Core.Path.{◌∙◌}
 use borrow.Author.Tests.{eq-eqb, ne_eqb}
-use borrow.Author.Rules.{rules}
 use Rattle.operators.proofs.scan_switch3.Goals as goal
 
 pub returns-then-b-eq61 : goal.returns-then-b-eq61

@@ -1,7 +1,6 @@
 -- `operators::scan_switch4` meets its contract: the tests on the bytes, in turn.
 use mathlib.Core.Path.{◌∙◌}
 use borrow.Author.Tests.{eq-eqb, ne_eqb}
-use borrow.Author.Rules.{rules}
 use Rattle.operators.proofs.scan_switch4.Goals as goal
 
 pub returns-then-b-ch : goal.returns-then-b-ch

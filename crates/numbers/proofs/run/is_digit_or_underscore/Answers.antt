@@ -1,5 +1,4 @@
 -- `numbers::run::is_digit_or_underscore` meets its contract: the two tests are the definition's.
-use borrow.Author.Rules.{rules}
 use Rattle.numbers.proofs.run.is_digit_or_underscore.Goals as goal
 
 pub returns : goal.returns

@@ -1,11 +1,10 @@
-use Prim.Native.Nat.{◌+◌, ◌-◌, ◌<◌}
-use mathlib.Core.Path.{◌≡◌, refl, sym, ap, ◌∙◌}
+use Prim.Native.Nat.{◌<◌}
+use mathlib.Core.Path.{◌≡◌, sym, ap, ◌∙◌}
 use mathlib.Core.Bool.{true}
 use native.Mathlib.Omega.{arith}
-use lib.ListN.{length, get_or, drop}
+use lib.ListN.{length, get_or}
 use Rattle.basics.proofs.Lists.{reach}
-use Rattle.utf8.specs.Chars.{chars}
-use Rattle.numbers.specs.Run.{is_digit_or_underscore, run_len}
+use Rattle.numbers.specs.Run.{is_digit_or_underscore}
 use Rattle.numbers.proofs.Runs.{in_run_plain, longest_more, longest_stop}
 use Rattle.numbers.proofs.run.run_end.Goals as goal
 use Rattle.numbers.proofs.run.run_end.Goals.{In-loop-p}

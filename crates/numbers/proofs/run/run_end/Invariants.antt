@@ -1,13 +1,9 @@
 -- `numbers::run::run_end` meets its contract. The loop's invariant: the run ends where it would from here.
-use Prim.Native.Nat.{◌+◌, ◌-◌, ◌<◌}
-use mathlib.Core.Path.{◌≡◌, refl, sym, ap, ◌∙◌}
-use mathlib.Core.Bool.{true}
-use native.Mathlib.Omega.{arith}
-use lib.ListN.{length, get_or, drop}
-use Rattle.basics.proofs.Lists.{reach}
+use Prim.Native.Nat.{◌+◌, ◌-◌}
+use mathlib.Core.Path.{◌≡◌}
+use lib.ListN.{length, drop}
 use Rattle.utf8.specs.Chars.{chars}
-use Rattle.numbers.specs.Run.{is_digit_or_underscore, run_len}
-use Rattle.numbers.proofs.Runs.{in_run_plain, longest_more, longest_stop}
+use Rattle.numbers.specs.Run.{run_len}
 use Rattle.numbers.proofs.run.run_end.Given as goal
 
 abbrev pub invariant-loop-p : goal.invariant-loop-p

@@ -1,12 +1,7 @@
-use Prim.Native.Nat.{◌-◌, ◌≤◌, ◌<◌}
-use mathlib.Core.Path.{◌≡◌, refl, sym, ap, ◌∙◌}
-use mathlib.Core.Bool.{false}
-use native.Mathlib.Omega.{arith}
-use borrow.Author.Rules.{rules}
-use lib.ListN.{length, drop, get_or}
-use Rattle.utf8.specs.Chars.{chars}
+use Prim.Native.Nat.{◌≤◌, ◌<◌}
+use mathlib.Core.Path.{sym, ap, ◌∙◌}
+use lib.ListN.{get_or}
 use Rattle.digits.specs.Digit.{digit_val}
-use Rattle.numbers.specs.Run.{digit_run}
 use Rattle.numbers.specs.Steps.{digits_at}
 use Rattle.numbers.proofs.Runs.{digits_more, digits_stop, run_end, run_digit, run_other, run_under, run_double}
 use Rattle.numbers.proofs.run.scan_digits.Goals as goal

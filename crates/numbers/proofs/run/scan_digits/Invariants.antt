@@ -1,15 +1,11 @@
 -- `numbers::run::scan_digits` meets its contract. The loop's invariant: what is left of the run and what was read make the whole.
-use Prim.Native.Nat.{◌-◌, ◌≤◌, ◌<◌}
-use mathlib.Core.Path.{◌≡◌, refl, sym, ap, ◌∙◌}
+use Prim.Native.Nat.{◌-◌}
+use mathlib.Core.Path.{◌≡◌}
 use mathlib.Core.Bool.{false}
-use native.Mathlib.Omega.{arith}
-use borrow.Author.Rules.{rules}
-use lib.ListN.{length, drop, get_or}
+use lib.ListN.{length, drop}
 use Rattle.utf8.specs.Chars.{chars}
-use Rattle.digits.specs.Digit.{digit_val}
 use Rattle.numbers.specs.Run.{digit_run}
 use Rattle.numbers.specs.Steps.{digits_at}
-use Rattle.numbers.proofs.Runs.{digits_more, digits_stop, run_end, run_digit, run_other, run_under, run_double}
 use Rattle.numbers.proofs.run.scan_digits.Given as goal
 
 abbrev pub invariant-loop-p : goal.invariant-loop-p

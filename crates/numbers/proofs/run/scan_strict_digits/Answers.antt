@@ -2,7 +2,6 @@
 use mathlib.Core.Path.{sym, ap, ◌∙◌}
 use Rattle.numbers.specs.Steps.{digits_at}
 use Rattle.numbers.proofs.Runs.{strict_under, strict_other, digits_stop}
-use borrow.Author.Rules.{rules}
 use Rattle.numbers.proofs.run.scan_strict_digits.Goals as goal
 
 pub returns-then-byte-eq95 : goal.returns-then-byte-eq95
