@@ -14,11 +14,11 @@ returns-then-b-eq10 c = sym (c.loop-p.invariant ∙ blank_lf _ _ c.loop-p-test.t
 
 pub returns-then-not-is_space : goal.returns-then-not-is_space
 returns-then-not-is_space c =
-    sym (c.loop-p.invariant ∙ blank_other _ _ c.loop-p-test.true c.if-b-eq10.false (sym c.is_space.ensures ∙ not-true _ c.if-not-is_space.true))
+    sym (c.loop-p.invariant ∙ blank_other _ _ c.loop-p-test.true c.if-b-eq10.false (sym c.is_space.ensures ∙ c.if-not-is_space.true))
 
 pub loop-p-preserved : goal.loop-p-preserved
 loop-p-preserved c =
-    c.loop-p.invariant ∙ blank_next _ _ c.loop-p-test.true c.if-b-eq10.false (sym c.is_space.ensures ∙ not-false _ c.if-not-is_space.false)
+    c.loop-p.invariant ∙ blank_next _ _ c.loop-p-test.true c.if-b-eq10.false (sym c.is_space.ensures ∙ c.if-not-is_space.false)
 
 pub returns : goal.returns
 returns c = sym (c.loop-p.invariant ∙ blank_end _ _ c.loop-p-test.false)
