@@ -87,11 +87,11 @@ module _ (quote : ℕ) (s : List ℕ) where
   pub run_marked : Bytes s → (n p : ℕ) → p + n ≤ length s
       → count_trailing_zeros (8 * n) (lanes n (stop_mark quote) (number_of (take n (drop p s)))) / 8 ≡ min n (plain_len quote (drop p s))
   unfolding stop_mark
-  run_marked = runs.run-marked (λ p. plain_len quote (drop p s)) (is_plain_byte quote) s (length s) run_next (plain_stop quote s)
+  run_marked = runs.run_marked (λ p. plain_len quote (drop p s)) (is_plain_byte quote) s (length s) run_next (plain_stop quote s)
 
   -- k bytes on
   pub run_skip : (k p : ℕ) → k ≤ plain_len quote (drop p s) → plain_len quote (drop p s) ≡ k + plain_len quote (drop (p + k) s)
-  run_skip = runs.run-skip (λ p. plain_len quote (drop p s)) next
+  run_skip = runs.run_skip (λ p. plain_len quote (drop p s)) next
     where
       next : (p : ℕ) → 0 < plain_len quote (drop p s) → plain_len quote (drop p s) ≡ suc (plain_len quote (drop (suc p) s))
       next p l =

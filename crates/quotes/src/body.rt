@@ -250,7 +250,7 @@ pub fn string_body(src: &[u8], at: usize) -> Quoted
 // The place of the first byte from a place on that is no plain character of a string: a quote, a
 // backslash, a line feed, one above 127, or the end.
 pub fn plain_string(src: &[u8], at: usize) -> usize
-    ensures { result ≡ at + plainLen doubleQuote (drop at src.now) }
+    ensures { result ≡ at + plain_len double_quote (drop at src.now) }
 {
     plain_end(src, at, b'"')
 }

@@ -14,6 +14,7 @@ pub(crate) enum Stop {
 }
 
 // Are there only spaces, tabs and CRs from a place to an LF or the end?
+#[tactic(auto, using(crate::proofs::Lines::blank_other, crate::proofs::Lines::blank_next, crate::proofs::Lines::blank_lf, crate::proofs::Lines::blank_end))]
 fn blank_to_end(src: &[u8], at: usize) -> bool
     ensures { result ≡ blank_to_end (chars (drop at src.now)) }
 {

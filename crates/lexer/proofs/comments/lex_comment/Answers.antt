@@ -11,7 +11,7 @@ use Rattle.utf8.specs.Chars.{chars}
 use Rattle.spans.specs.Line.{ends_line}
 use Rattle.lexer.proofs.SpannedTokens.{comment_inserted, comment_kept}
 use Rattle.lexer.proofs.comments.lex_comment.Goals as goal
-use Rattle.lexer.proofs.comments.lex_comment.Goals.{Else-second-eq47, Joined-mark-2, else-mark-2, then-mark-2}
+use Rattle.lexer.proofs.comments.lex_comment.Goals.{Else-second-eq47, Joined-mark-2, else-mark-2, then-mark-2+else-ends_line}
 
 pub returns-then-mark : goal.returns-then-mark
 returns-then-mark c =
@@ -46,7 +46,7 @@ general_comment-requires c = (c.requires.0, star (goal.at.general_comment-requir
 kept : (c : Joined-mark-2) → c.args.mark && ends_line false (chars (drop (c.args.at + 2) c.args.src.now)) ≡ false
 kept c =
     let m = c.args.mark in
-    elim c.if-mark-2.branch [ then-mark-2 w ↦ rw (sym w.1.ensures ∙ w.2.left) (and-false m) | else-mark-2 w ↦ rw w.left ]
+    elim c.if-mark-2.branch [ then-mark-2+else-ends_line w ↦ rw (sym w.ends_line.ensures ∙ w.if-ends_line.false) (and-false m) | else-mark-2 w ↦ rw w.if-mark-2.false ]
 
 pub returns : goal.returns
 returns c =

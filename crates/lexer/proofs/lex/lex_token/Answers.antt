@@ -84,8 +84,9 @@ no_number c = none_of _ _ (sym c.starts_number.ensures ∙ c.if-starts_number.fa
 pub lex_other-requires : goal.lex_other-requires
 lex_other-requires c =
     let n = no_number (goal.at.lex_other-requires c).Else-starts_number in
-    let r = c.in_default.rest in
-    ((there (goal.at.lex_other-requires c).Else-is_letter, ne_eqb _ 10 r.0.0.0.1, n.0, ne_eqb _ 96 r.1), second (goal.at.lex_other-requires c).Else-is_letter, n.1)
+    let f : get_or c.args.src.now c.args.at 0 ≡ 10 → ⊥ = omega arith in
+    let w : get_or c.args.src.now c.args.at 0 ≡ 96 → ⊥ = omega arith in
+    ((there (goal.at.lex_other-requires c).Else-is_letter, ne_eqb _ 10 f, n.0, ne_eqb _ 96 w), second (goal.at.lex_other-requires c).Else-is_letter, n.1)
 
 pub returns-in-10 : goal.returns-in-10
 returns-in-10 c =
@@ -111,7 +112,6 @@ returns-in-96 c =
 pub returns-in_default : goal.returns-in_default
 returns-in_default c =
     let a = c.args in
-    let r = c.in_default.rest in
     c.lex_other.ensures
     ∙ ap (placed a.src.now a.at) (other_is a.mark a.src.now a.at (there (goal.at.returns-in_default c).Else-is_letter) (no_letter (goal.at.returns-in_default c).Else-is_letter) (no_number (goal.at.returns-in_default c).Else-starts_number).0
-    r.0.0.0.1 r.0.0.1 r.0.1 r.1)
+    (omega arith) (omega arith) (omega arith) (omega arith))

@@ -8,4 +8,4 @@ use Rattle.quotes.proofs.body.add.Goals.{else-q-eq0, then-q-eq0}
 
 pub returns : goal.returns
 unfolding added
-returns c = elim c.if-q-eq0.branch [ then-q-eq0 w ↦ rw (w.1, eq-eqb _ _ w.if-q-eq0.true) | else-q-eq0 w ↦ rw (w.1, ne_eqb _ _ w.if-q-eq0.false) ]
+returns c = elim c.if-q-eq0.branch [ then-q-eq0 w ↦ rw (w.code-is, eq-eqb _ _ w.if-q-eq0.true) | else-q-eq0 w ↦ rw (w.code-is, ne_eqb _ _ w.if-q-eq0.false) ]

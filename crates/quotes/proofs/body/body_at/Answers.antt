@@ -18,7 +18,7 @@ use Rattle.quotes.proofs.Bounds.{Within, Sized, escape_sized, char_sized, plain_
 use Rattle.quotes.proofs.Places.{joined, joined_start, escape_fits, step_end, step_quote, step_lf, step_bad, step_escape, step_plain}
 use Rattle.quotes.proofs.PlainRuns.{run_len, run_some, run_fits, step_run}
 use Rattle.quotes.proofs.body.body_at.Goals as goal
-use Rattle.quotes.proofs.body.body_at.Goals.{After-char_at-c, After-escape_at-e, After-plain_end, At-loop-p, Else-b-eq10, In-Value, In-loop-p}
+use Rattle.quotes.proofs.body.body_at.Goals.{After-char_at-c, After-escape_at-e, After-plain_end, At-loop-p, In-Value, In-loop-p}
 
 -- the text is short of half the numbers
 short : (c : At-loop-p) → length c.args.src.now < 2 ^ 63
@@ -29,9 +29,6 @@ inside c = next c.loop-p.p _ c.loop-p-test.true
 
 below : (c : In-loop-p) → c.loop-p.p + 0 ≤ length c.args.src.now
 below c = still c.loop-p.p _ (sooner c.loop-p.p _ c.loop-p-test.true)
-
-there : (c : Else-b-eq10) → c.loop-p.p < length c.args.src.now
-there c = c.loop-p-test.true
 
 pub loop-p-init : goal.loop-p-init
 loop-p-init c = rw c.nothing_read-q.ensures ((none_le _, none_le _, none_le _, none_le _, refl), none_le _, joined_start c.args.at _)
@@ -63,18 +60,13 @@ returns-then-b-eq10 c =
 -- ---- an escape
 -- it ends within the text
 fits : (c : After-escape_at-e) → c.loop-p.p + (c.escape_at-e.result.len + 1) ≤ length c.args.src.now
-fits c = escape_fits _ _ _ (says c.escape_at-e.result) (there c.before.before) c.escape_at-e.ensures
+fits c = escape_fits _ _ _ (says c.escape_at-e.result) c.loop-p-test.true c.escape_at-e.ensures
 
 pub overflow_add-p-then-b-eq92 : goal.overflow_add-p-then-b-eq92
 overflow_add-p-then-b-eq92 c = record { fits = fit64 _ _ (inside (goal.at.overflow_add-p-then-b-eq92 c).In-loop-p) (short (goal.at.overflow_add-p-then-b-eq92 c).At-loop-p) }
 
 pub overflow_add-n : goal.overflow_add-n
 overflow_add-n c = record { fits = fit64 _ _ (right_part _ _ _ (fits (goal.at.overflow_add-n c).After-escape_at-e)) (short (goal.at.overflow_add-n c).At-loop-p) }
-
--- in the else: one that gives no character
-not_value : (g : Given) → OneOf (1 ∷ []) (tag_of (declared enum) g) → meaning_of g ≡ no_character (error_of (meaning_of g))
-not_value (Value code byte) k = absurd (omega arith)
-not_value (Bad error) k = refl
 
 pub overflow_add-p-in_default : goal.overflow_add-p-in_default
 overflow_add-p-in_default c = record { fits = fit64 _ _ (fits (goal.at.overflow_add-p-in_default c).After-escape_at-e) (short (goal.at.overflow_add-p-in_default c).At-loop-p) }
@@ -88,10 +80,10 @@ returns-in_default c =
     let x = c.escape_at-e in
     let slash = c.if-b-eq92.true in
     let a = c.args in
-    let n = not_value x.result.given c.in_default.keys2 in
+    let n : meaning_of x.result.given ≡ no_character (error_of (meaning_of x.result.given)) = rw c.in_default.is in
     c.stop-in_default.ensures
     ∙ rw c.error_of.ensures
-    (step_bad a.quote c.requires a.src.now c.loop-p.p c.loop-p.q (there (goal.at.returns-in_default c).Else-b-eq10) c.if-b-quote.false slash (says x.result) x.ensures (error_of (meaning_of x.result.given)) c.loop-p.invariant.0.4 n)
+    (step_bad a.quote c.requires a.src.now c.loop-p.p c.loop-p.q c.loop-p-test.true c.if-b-quote.false slash (says x.result) x.ensures (error_of (meaning_of x.result.given)) c.loop-p.invariant.0.4 n)
     ∙ sym c.loop-p.invariant.2
 
 -- what it gives is no longer than twice the escape
@@ -100,15 +92,15 @@ sized : (c : In-Value)
     Sized n (escape_piece n c.in-Value.code c.in-Value.byte)
 sized c =
     let x = c.escape_at-e in
-    let v = c.given-1.given in
-    escape_sized (x.result.len + 1) v.0.0 v.0.1.0 (one_le _)
-    (escape_gives _ _ (says x.result) (character v.0.0 v.0.1.0) x.ensures (ap meaning_of v.1))
+    let v = c.in-Value in
+    escape_sized (x.result.len + 1) v.code v.byte (one_le _)
+    (escape_gives _ _ (says x.result) (character v.code v.byte) x.ensures (ap meaning_of v.is))
 
 pub add-q-requires : goal.add-q-requires
 add-q-requires c =
-    let v = c.given-1.given in
+    let v = c.in-Value in
     rw c.escape_piece.ensures
-    (room_add c.loop-p.p _ _ c.loop-p.q (escape_piece _ v.0.0 v.0.1.0) c.loop-p.invariant.0 (sized (goal.at.add-q-requires c).In-Value) (fits (goal.at.add-q-requires c).After-escape_at-e) (short (goal.at.add-q-requires c).At-loop-p))
+    (room_add c.loop-p.p _ _ c.loop-p.q (escape_piece _ v.code v.byte) c.loop-p.invariant.0 (sized (goal.at.add-q-requires c).In-Value) (fits (goal.at.add-q-requires c).After-escape_at-e) (short (goal.at.add-q-requires c).At-loop-p))
 
 pub overflow_add-p-then-b-eq92-2 : goal.overflow_add-p-then-b-eq92-2
 overflow_add-p-then-b-eq92-2 c = record { fits = fit64 _ _ (fits (goal.at.overflow_add-p-then-b-eq92-2 c).After-escape_at-e) (short (goal.at.overflow_add-p-then-b-eq92-2 c).At-loop-p) }
@@ -119,17 +111,17 @@ loop-p-smaller-then-b-eq92 c =
 
 pub loop-p-preserved-then-b-eq92 : goal.loop-p-preserved-then-b-eq92
 loop-p-preserved-then-b-eq92 c =
-    let v = c.given-1.given in
+    let v = c.in-Value in
     let x = c.escape_at-e in
     let slash = c.if-b-eq92.true in
     let a = c.args in
     let n = x.result.len + 1 in
-    let w = added_within c.loop-p.p n _ c.loop-p.q (escape_piece n v.0.0 v.0.1.0) c.loop-p.invariant.0 (sized (goal.at.loop-p-preserved-then-b-eq92 c).In-Value) (fits (goal.at.loop-p-preserved-then-b-eq92 c).After-escape_at-e) in
+    let w = added_within c.loop-p.p n _ c.loop-p.q (escape_piece n v.code v.byte) c.loop-p.invariant.0 (sized (goal.at.loop-p-preserved-then-b-eq92 c).In-Value) (fits (goal.at.loop-p-preserved-then-b-eq92 c).After-escape_at-e) in
     rw (c.add-q.ensures, c.escape_piece.ensures) (
       w.0,
       w.1,
       c.loop-p.invariant.2
-          ∙ step_escape a.quote c.requires a.src.now c.loop-p.p c.loop-p.q (there (goal.at.loop-p-preserved-then-b-eq92 c).Else-b-eq10) c.if-b-quote.false slash (says x.result) x.ensures v.0.0 v.0.1.0 (ap meaning_of v.1),
+          ∙ step_escape a.quote c.requires a.src.now c.loop-p.p c.loop-p.q c.loop-p-test.true c.if-b-quote.false slash (says x.result) x.ensures v.code v.byte (ap meaning_of v.is),
     )
 
 -- ---- a run of plain characters
@@ -144,7 +136,7 @@ run : (c : After-plain_end) → (c.loop-p.p ≤ c.plain_end.result) × (1 ≤ c.
 run c = run_some c.args.quote _ c.loop-p.p c.plain_end.result c.plain_end.ensures
 
 run_inside : (c : After-plain_end) → c.loop-p.p + (c.plain_end.result - c.loop-p.p) ≤ length c.args.src.now
-run_inside c = run_fits c.args.quote _ c.loop-p.p c.plain_end.result c.plain_end.ensures (there c.before.before.before)
+run_inside c = run_fits c.args.quote _ c.loop-p.p c.plain_end.result c.plain_end.ensures c.loop-p-test.true
 
 pub overflow_sub-n : goal.overflow_sub-n
 overflow_sub-n c = (run (goal.at.overflow_sub-n c).After-plain_end).0
@@ -173,15 +165,15 @@ loop-p-preserved-then-b-lt128 c =
       w.0,
       w.1,
       c.loop-p.invariant.2
-          ∙ step_run a.quote c.requires a.src.now c.loop-p.q c.loop-p.p n (run_len a.quote a.src.now c.loop-p.p e.result e.ensures) (there (goal.at.loop-p-preserved-then-b-lt128 c).Else-b-eq10) c.if-b-quote.false c.if-b-eq10.false c.if-b-eq92.false c.if-b-lt128.true,
+          ∙ step_run a.quote c.requires a.src.now c.loop-p.q c.loop-p.p n (run_len a.quote a.src.now c.loop-p.p e.result e.ensures) c.loop-p-test.true c.if-b-quote.false c.if-b-eq10.false c.if-b-eq92.false c.if-b-lt128.true,
     )
 
 -- it is within the text, and takes a byte or more
 char_fits : (c : After-char_at-c) → c.loop-p.p + c.char_at-c.result.width ≤ length c.args.src.now
-char_fits c = there_fits _ _ c.char_at-c.result (there c.before.before.before) c.char_at-c.ensures
+char_fits c = there_fits _ _ c.char_at-c.result c.loop-p-test.true c.char_at-c.ensures
 
 char_least : (c : After-char_at-c) → 1 ≤ c.char_at-c.result.width
-char_least c = there_least _ _ c.char_at-c.result (there c.before.before.before) c.char_at-c.ensures
+char_least c = there_least _ _ c.char_at-c.result c.loop-p-test.true c.char_at-c.ensures
 
 pub add-q-requires-else-b-lt128 : goal.add-q-requires-else-b-lt128
 add-q-requires-else-b-lt128 c =
@@ -205,7 +197,7 @@ loop-p-preserved c =
       w.0,
       w.1,
       c.loop-p.invariant.2
-          ∙ step_plain a.quote c.requires a.src.now c.loop-p.p c.loop-p.q (there (goal.at.loop-p-preserved c).Else-b-eq10) c.if-b-quote.false c.if-b-eq10.false c.if-b-eq92.false r.result r.ensures,
+          ∙ step_plain a.quote c.requires a.src.now c.loop-p.p c.loop-p.q c.loop-p-test.true c.if-b-quote.false c.if-b-eq10.false c.if-b-eq92.false r.result r.ensures,
     )
 
 -- ---- the end of the text

@@ -26,7 +26,7 @@ found : (c : Then-is_block)
 found c = block_true _ _ _ (sym c.is_block.ensures ∙ c.if-is_block.true)
 
 pub overflow_add-body : goal.overflow_add-body
-overflow_add-body c = omega (arith, (found (goal.at.overflow_add-body c).Then-is_block).ranges)
+overflow_add-body c = omega (arith, (found (goal.at.overflow_add-body c).Then-is_block).fits)
 
 pub overflow_add-body-then-is_block : goal.overflow_add-body-then-is_block
 overflow_add-body-then-is_block c = let i = c.loop-body.invariant.counted in omega (arith, (found (goal.at.overflow_add-body-then-is_block c).Then-is_block).fits)

@@ -2,6 +2,7 @@ use Prim.Native.Nat.{◌-◌}
 use mathlib.Core.Path.{refl, sym, ◌∙◌}
 use native.Mathlib.Omega.{arith}
 use lib.ListN.{length, drop}
+use borrow.Author.Tests.{eq-eqb, ne_eqb}
 use Rattle.utf8.specs.Chars.{chars}
 use Rattle.spans.specs.Span.{to_stop}
 use Rattle.spans.specs.Body.{stop_body}
@@ -21,7 +22,7 @@ found : (c : Then-is_block)
 found c = block_true _ _ _ (sym c.is_block.ensures ∙ c.if-is_block.true)
 
 pub overflow_add-body : goal.overflow_add-body
-overflow_add-body c = omega (arith, (found (goal.at.overflow_add-body c).Then-is_block).ranges)
+overflow_add-body c = omega (arith, (found (goal.at.overflow_add-body c).Then-is_block).fits)
 
 pub overflow_add-body-then-is_block : goal.overflow_add-body-then-is_block
 overflow_add-body-then-is_block c = let i = c.loop-body.invariant.counted in omega (arith, (found (goal.at.overflow_add-body-then-is_block c).Then-is_block).fits)
@@ -67,8 +68,8 @@ grow-body-requires c = (c.run_len-n.ensures.1 c.if-n-lt8.true, (after_run (goal.
 pub returns-then-closes : goal.returns-then-closes
 returns-then-closes c =
     let more = c.run_len-n.ensures.1 c.if-n-lt8.true in
-    part_last _ _ _ _ (after_run (goal.at.returns-then-closes c).After-run_len-n) more _ _ c.grow-body.ensures c.if-closes.true
-    (λ r. stop_last _ _ more r _ c.requires c.if-closes.true)
+    let e = eq-eqb _ _ c.if-closes.true in
+    part_last _ _ _ _ (after_run (goal.at.returns-then-closes c).After-run_len-n) more _ _ c.grow-body.ensures e (λ r. stop_last _ _ more r _ c.requires e)
 
 pub loop-body-smaller-else-closes : goal.loop-body-smaller-else-closes
 loop-body-smaller-else-closes c =
@@ -78,9 +79,10 @@ loop-body-smaller-else-closes c =
 pub loop-body-preserved-else-closes : goal.loop-body-preserved-else-closes
 loop-body-preserved-else-closes c =
     let more = c.run_len-n.ensures.1 c.if-n-lt8.true in
-    part_next _ _ _ _ (after_run (goal.at.loop-body-preserved-else-closes c).After-run_len-n) more _ _ c.grow-body.ensures c.if-closes.false
+    let e = ne_eqb _ _ c.if-closes.false in
+    part_next _ _ _ _ (after_run (goal.at.loop-body-preserved-else-closes c).After-run_len-n) more _ _ c.grow-body.ensures e
     (to_stop c.args.stop)
-    (λ r. stop_more _ _ more r _ c.requires c.if-closes.false)
+    (λ r. stop_more _ _ more r _ c.requires e)
 
 pub loop-body-smaller : goal.loop-body-smaller
 loop-body-smaller c = omega (arith, c.run_len-n.ensures.0.fits)

@@ -26,7 +26,7 @@ overflow_cast-result c = record { fits = lt_of_le_of_lt (trailing_le 64 _) (lit<
 
 pub returns : goal.returns
 returns c =
-    let fit = leb-true _ _ (sym c.has_eight.ensures ∙ not-false _ c.if-not-has_eight.false) in (
+    let fit = leb-true _ _ (sym c.has_eight.ensures ∙ c.if-not-has_eight.false) in (
       run_of_eight c.args.stop c.args.src.now (λ i. (c.type_inv.src i).fits) c.requires.0 c.args.at c.eight-w.result (search rules) c.eight-w.ensures fit,
       λ h. omega (arith, fit),
     )
