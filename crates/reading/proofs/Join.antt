@@ -232,6 +232,16 @@ module _ (lex : Lexer) (laws : LexLaws lex) (base size : ℕ) (t₁ t₂ : List 
       some? [] = inl refl
       some? (c ∷ cs) = inr (omega arith)
 
+  lines_behind : (j : ℕ) → 0 < j → (both (a + j)).lines ≡ (first (suc a)).lines ++ map (λ x. length t₁ + x) (drop 1 (second j).lines)
+  unfolding both first second with_more
+  lines_behind zero h = absurd (omega arith)
+  lines_behind (suc k) h = ap (λ u. u.lines) (both_seam k) ∙ (all_behind (suc k)).lines_are
+
+  errors_behind : (j : ℕ) → 0 < j → (both (a + j)).errors ≡ (first (suc a)).errors ++ map (move_error (length t₁) (count is_lf t₁)) (second j).errors
+  unfolding both first second with_more
+  errors_behind zero h = absurd (omega arith)
+  errors_behind (suc k) h = ap (λ u. u.errors) (both_seam k) ∙ (all_behind (suc k)).errors_are
+
   pub joined : Joined lex base size t₁ t₂ a
   unfolding both first second with_more
   joined =
@@ -240,6 +250,6 @@ module _ (lex : Lexer) (laws : LexLaws lex) (base size : ℕ) (t₁ t₂ : List 
         first_lines = λ i h. ap (λ u. u.lines) (both_first i h);
         first_errors = λ i h. ap (λ u. u.errors) (both_first i h);
         second_token = λ j. seam_token j ∙ (all_behind j).token_is;
-        second_lines = λ j. elim j [ zero ↦ λ h. absurd (omega arith) | suc k ↦ λ h. ap (λ u. u.lines) (both_seam k) ∙ (all_behind (suc k)).lines_are ];
-        second_errors = λ j. elim j [ zero ↦ λ h. absurd (omega arith) | suc k ↦ λ h. ap (λ u. u.errors) (both_seam k) ∙ (all_behind (suc k)).errors_are ];
+        second_lines = lines_behind;
+        second_errors = errors_behind;
       }

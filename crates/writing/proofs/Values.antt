@@ -4,16 +4,12 @@ use mathlib.Core.Path.{◌≡◌, refl, sym, ap, ◌∙◌}
 use mathlib.Core.Bool.{Bool, true}
 use mathlib.Core.List.{List, [], ◌∷◌, ◌++◌}
 use native.Mathlib.Omega.{arith}
-use types.Run.{OneOf}
-use denote.Enum.Declared.{tag_of, declared}
 use lib.Dec.{lit<}
 use lib.ListN.{length, get_or, drop}
 use Rattle.utf8.specs.declared.Char.{Char}
 use Rattle.utf8.specs.Chars.{char_at, chars, encode}
 use Rattle.utf8.proofs.First.{chars_end}
-use Rattle.escapes.specs.contracts.Given.{enum}
-use Rattle.escapes.specs.declared.Given.{Given}
-use Rattle.escapes.specs.declared.Given.TheVariants.{Value, Bad}
+use Rattle.escapes.specs.declared.Given.TheVariants.{Bad}
 use Rattle.escapes.specs.Answers.{Meaning, character, Escape, meaning_of, bytes_of}
 use Rattle.escapes.specs.Escape.{escape_of}
 use Rattle.quotes.specs.Body.{Body, escape, body_from, body}
@@ -27,12 +23,7 @@ value_of b = b.value
 abbrev pub value_at : List ℕ → ℕ → List ℕ
 value_at s p = (body 34 (chars (drop p s))).value
 
--- an escape that gives nothing
-no_value : (n : ℕ) (g : Given) (b : Body) → OneOf (1 ∷ []) (tag_of (declared enum) g) → (escape n (meaning_of g) b).value ≡ []
-no_value n (Value code byte) b k = absurd (omega arith)
-no_value n (Bad error) b k = refl
-
--- one that gives a byte
+-- an escape that gives a byte
 pub given_byte : (r : List Char) (x : Escape) (code : ℕ) (byte : Bool) → x ≡ escape_of 34 r → x.meaning ≡ character code byte → byte ≡ true → code ≤ 255
 given_byte r x code byte is g t = escape_byte 34 r code (ap (λ y. y.meaning) (sym is) ∙ g ∙ ap (character code) t)
 
@@ -56,8 +47,8 @@ module _ (s : List ℕ) (p : ℕ) where
         value_slash : value_at s p ≡ after_escape x.meaning
         value_slash = ap value_of (at_slash 34 (lit< tt) s p h no_quote slash x is)
 
-        pub value_bad : (g : Given) → x.meaning ≡ meaning_of g → OneOf (1 ∷ []) (tag_of (declared enum) g) → value_at s p ≡ []
-        value_bad g is k = value_slash ∙ ap after_escape is ∙ no_value (suc x.len) g _ k
+        pub value_bad : (error : ℕ) → x.meaning ≡ meaning_of (Bad error) → value_at s p ≡ []
+        value_bad error g = value_slash ∙ ap after_escape g
 
         pub value_escape : (code : ℕ) (byte : Bool) → x.meaning ≡ character code byte → value_at s p ≡ bytes_of (character code byte) ++ value_at s (p + (x.len + 1))
         value_escape code byte g = value_slash ∙ ap after_escape g

@@ -20,7 +20,7 @@ shape_of-area-then-src-p c = c.loop-left.invariant.0
 pub returns-then-src-p : goal.returns-then-src-p
 returns-then-src-p c =
     let a = c.args in
-    left_as_with_rest c.loop-left.area c.loop-left.n (text_end a.crs c.loop-left.false a.src.now c.loop-left.p c.if-src-p.true) c.loop-left.invariant.1
+    left_as_with_rest c.loop-left.area c.loop-left.n (text_end a.crs c.loop-left.left a.src.now c.loop-left.p c.if-src-p.true) c.loop-left.invariant.1
 
 pub overflow_add-p : goal.overflow_add-p
 overflow_add-p c =
@@ -34,15 +34,15 @@ pub loop-left-preserved-then-crs-is_cr : goal.loop-left-preserved-then-crs-is_cr
 loop-left-preserved-then-crs-is_cr c =
     let x = c.char_at-c in
     let a = c.args in
-    let e = text_kept a.crs c.loop-left.false a.src.now c.loop-left.p x.result c.loop-left-test.true c.if-src-p.false x.ensures c.if-crs-is_cr.true in
-    let after = text_at a.crs (c.loop-left.false - 1) a.src.now (c.loop-left.p + x.result.width) in
+    let e = text_kept a.crs c.loop-left.left a.src.now c.loop-left.p x.result c.loop-left-test.true c.if-src-p.false x.ensures c.if-crs-is_cr.true in
+    let after = text_at a.crs (c.loop-left.left - 1) a.src.now (c.loop-left.p + x.result.width) in
     (search rules, λ rest. left_as_with_rest c.loop-left.area c.loop-left.n e c.loop-left.invariant.1 rest ∙ ap (sets c.loop-left.area c.loop-left.n) (append_assoc (encode x.result.code) after rest) ∙ c.put_code-n.ensures (after ++ rest))
 
 pub loop-left-preserved : goal.loop-left-preserved
 loop-left-preserved c =
     let a = c.args in
     let x = c.char_at-c in
-    (c.loop-left.invariant.0, left_as_with_rest c.loop-left.area c.loop-left.n (text_dropped a.crs c.loop-left.false a.src.now c.loop-left.p x.result c.loop-left-test.true c.if-src-p.false x.ensures c.if-crs-is_cr.false) c.loop-left.invariant.1)
+    (c.loop-left.invariant.0, left_as_with_rest c.loop-left.area c.loop-left.n (text_dropped a.crs c.loop-left.left a.src.now c.loop-left.p x.result c.loop-left-test.true c.if-src-p.false x.ensures c.if-crs-is_cr.false) c.loop-left.invariant.1)
 
 pub shape_of-area : goal.shape_of-area
 shape_of-area c = c.loop-left.invariant.0
@@ -50,4 +50,4 @@ shape_of-area c = c.loop-left.invariant.0
 pub returns : goal.returns
 returns c =
     let a = c.args in
-    left_as_with_rest c.loop-left.area c.loop-left.n (text_none a.crs c.loop-left.false a.src.now c.loop-left.p c.loop-left-test.false) c.loop-left.invariant.1
+    left_as_with_rest c.loop-left.area c.loop-left.n (text_none a.crs c.loop-left.left a.src.now c.loop-left.p c.loop-left-test.false) c.loop-left.invariant.1

@@ -21,5 +21,5 @@ pub shape_of-area : goal.shape_of-area
 shape_of-area c = c.loop-k.invariant.0
 
 pub returns : goal.returns
-returns c =
+returns c = λ rest.
     c.loop-k.invariant.1 rest ∙ no_more c.loop-k.area c.loop-k.n (encode c.args.code) c.loop-k.k (rw c.encoded_len-len.ensures at c.loop-k-test.false) rest

@@ -11,25 +11,22 @@ use Rattle.quotes.proofs.Places.{escape_fits}
 use Rattle.writing.proofs.Areas.{left_as, finished}
 use Rattle.writing.proofs.Values.{value_at, given_byte, value_end, value_quote, value_lf, value_bad, value_escape, value_plain}
 use Rattle.writing.proofs.value.write_interpreted.Goals as goal
-use Rattle.writing.proofs.value.write_interpreted.Goals.{After-char_at-c, After-escape_at-e, At-loop-p, Else-b-eq10}
+use Rattle.writing.proofs.value.write_interpreted.Goals.{After-char_at-c, After-escape_at-e, At-loop-p}
 
 -- the text is short of half the numbers
 short : (c : At-loop-p) → length c.args.src.now < 2 ^ 63
 short c = omega (arith, c.well_formed.0.1)
 
-there : (c : Else-b-eq10) → c.loop-p.p < length c.args.src.now
-there c = c.loop-p-test.true
-
 -- an escape ends within the text
 escape_within : (c : After-escape_at-e) → c.loop-p.p + (c.escape_at-e.result.len + 1) ≤ length c.args.src.now
-escape_within c = escape_fits _ _ _ (says c.escape_at-e.result) (there c.before.before) c.escape_at-e.ensures
+escape_within c = escape_fits _ _ _ (says c.escape_at-e.result) c.loop-p-test.true c.escape_at-e.ensures
 
 -- and so does a character, of a byte or more
 char_within : (c : After-char_at-c) → c.loop-p.p + c.char_at-c.result.width ≤ length c.args.src.now
-char_within c = there_fits _ _ c.char_at-c.result (there c.before.before) c.char_at-c.ensures
+char_within c = there_fits _ _ c.char_at-c.result c.loop-p-test.true c.char_at-c.ensures
 
 char_least : (c : After-char_at-c) → 1 ≤ c.char_at-c.result.width
-char_least c = there_least _ _ c.char_at-c.result (there c.before.before) c.char_at-c.ensures
+char_least c = there_least _ _ c.char_at-c.result c.loop-p-test.true c.char_at-c.ensures
 
 pub loop-p-init : goal.loop-p-init
 loop-p-init c = (refl, refl)
@@ -57,13 +54,12 @@ shape_of-area-in_default c = c.loop-p.invariant.0
 pub returns-in_default : goal.returns-in_default
 returns-in_default c =
     let x = c.escape_at-e in
-    finished c.loop-p.area c.loop-p.n c.loop-p.invariant.1 (value_bad _ c.loop-p.p c.loop-p-test.true c.if-b-eq34.false c.if-b-eq92.true (says x.result) x.ensures x.result.given refl c.in_default.keys2)
+    finished c.loop-p.area c.loop-p.n c.loop-p.invariant.1 (value_bad _ c.loop-p.p c.loop-p-test.true c.if-b-eq34.false c.if-b-eq92.true (says x.result) x.ensures _ (ap meaning_of c.in_default.is))
 
 pub put_given-n-requires : goal.put_given-n-requires
 put_given-n-requires c =
     let x = c.escape_at-e in
-    let v = c.given-1.given in
-    given_byte _ (says x.result) v.0.0 v.0.1.0 x.ensures (ap meaning_of v.1)
+    given_byte _ (says x.result) _ _ x.ensures (ap meaning_of c.in-Value.is)
 
 pub overflow_add-p-then-b-eq92 : goal.overflow_add-p-then-b-eq92
 overflow_add-p-then-b-eq92 c =
@@ -80,10 +76,9 @@ loop-p-smaller-then-b-eq92 c =
 pub loop-p-preserved-then-b-eq92 : goal.loop-p-preserved-then-b-eq92
 loop-p-preserved-then-b-eq92 c =
     let put = c.put_given-n in
-    let v = c.given-1.given in
     let x = c.escape_at-e in (
-      put.auto.1.1.0 ∙ c.loop-p.invariant.0,
-      left_as c.loop-p.area c.loop-p.n c.loop-p.invariant.1 (value_escape _ c.loop-p.p (there (goal.at.loop-p-preserved-then-b-eq92 c).Else-b-eq10) c.if-b-eq34.false c.if-b-eq92.true (says x.result) x.ensures v.0.0 v.0.1.0 (ap meaning_of v.1)) ∙ put.ensures _,
+      put.auto.area ∙ c.loop-p.invariant.0,
+      left_as c.loop-p.area c.loop-p.n c.loop-p.invariant.1 (value_escape _ c.loop-p.p c.loop-p-test.true c.if-b-eq34.false c.if-b-eq92.true (says x.result) x.ensures _ _ (ap meaning_of c.in-Value.is)) ∙ put.ensures _,
     )
 
 pub overflow_add-p-else-b-eq92 : goal.overflow_add-p-else-b-eq92
@@ -98,8 +93,8 @@ pub loop-p-preserved : goal.loop-p-preserved
 loop-p-preserved c =
     let put = c.put_code-n in
     let x = c.char_at-c in (
-      put.auto.0 ∙ c.loop-p.invariant.0,
-      left_as c.loop-p.area c.loop-p.n c.loop-p.invariant.1 (value_plain _ c.loop-p.p (there (goal.at.loop-p-preserved c).Else-b-eq10) c.if-b-eq34.false c.if-b-eq10.false c.if-b-eq92.false x.result x.ensures) ∙ put.ensures _,
+      put.auto.area ∙ c.loop-p.invariant.0,
+      left_as c.loop-p.area c.loop-p.n c.loop-p.invariant.1 (value_plain _ c.loop-p.p c.loop-p-test.true c.if-b-eq34.false c.if-b-eq10.false c.if-b-eq92.false x.result x.ensures) ∙ put.ensures _,
     )
 
 pub shape_of-area : goal.shape_of-area
