@@ -1,5 +1,6 @@
 pub mod Parts
 pub mod Spaces
+pub mod Firsts
 pub mod Given
 pub mod SimpleTokens
 pub mod Giving

@@ -98,7 +98,7 @@ abbrev is_of : Class → Bool
 is_of c = elim c [ kinds.Literal ↦ false | kinds.Operator ↦ true | kinds.Keyword ↦ false | kinds.Other ↦ false ]
 
 is_of_lem : (c : Class) → is_of c ≡ true → c ≡ kinds.Operator
-is_of_lem c = elim c [ kinds.Literal ↦ λ t. absurd (false≢true t) | kinds.Operator ↦ λ t. refl | kinds.Keyword ↦ λ t. absurd (false≢true t) | kinds.Other ↦ λ t. absurd (false≢true t) ]
+is_of_lem c = elim c as (λ k. is_of k ≡ true → k ≡ kinds.Operator) [ kinds.Literal ↦ λ t. absurd (false≢true t) | kinds.Operator ↦ λ t. refl | kinds.Keyword ↦ λ t. absurd (false≢true t) | kinds.Other ↦ λ t. absurd (false≢true t) ]
 
 -- the one row of these is an operator of a kind, of one byte
 abbrev single : ℕ → ℕ → List Row → Bool

@@ -48,7 +48,7 @@ module _ (src : List ℕ) (s : State) (table list : List ℕ) (b : Skipped) (x :
   read = b.end - s.place + x.chars
 
   pub behind : s.place ≤ b.end
-  behind = pass.start-behind src s b.end at
+  behind = pass.start_behind src s b.end at
 
   pub lines_fit : s.lines ≤ length table
   lines_fit = (fit (file_of s) table kept.fitted).held
@@ -56,14 +56,14 @@ module _ (src : List ℕ) (s : State) (table list : List ℕ) (b : Skipped) (x :
   -- the token's line feeds are among its bytes
   pub feeds_within : (x.lfs ≤ x.end) × (x.end ≤ length src)
   feeds_within =
-      (omega (arith, pass.token-feeds src s b.end at x k.reads.token, pass.token_end src s b.end at x k.reads.token, count_fits is_lf x.chars src b.end), pass.end_fits src s b.end at x k.reads.token kept.place)
+      (omega (arith, pass.token_feeds src s b.end at x k.reads.token, pass.token_end src s b.end at x k.reads.token, count_fits is_lf x.chars src b.end), pass.end_fits src s b.end at x k.reads.token kept.place)
 
   module _ (short : length src < 2 ^ 63) where
     pub offset_fits : s.offset + n < 2 ^ 64
-    offset_fits = rw k.chars (pass.offset-fits src s b.end at x k.reads.token kept.place short kept.offset)
+    offset_fits = rw k.chars (pass.offset_fits src s b.end at x k.reads.token kept.place short kept.offset)
 
     pub feeds_fit : b.lfs + x.lfs < 2 ^ 64
-    feeds_fit = pass.feeds-fit src s b.end at x k.reads.token kept.place short feeds
+    feeds_fit = pass.feeds_fit src s b.end at x k.reads.token kept.place short feeds
 
   -- ---- a plain token that ends before the size
   module _ (p : is_plain x ≡ true) (l : s.offset + read < s.size) where
@@ -80,7 +80,7 @@ module _ (src : List ℕ) (s : State) (table list : List ℕ) (b : Skipped) (x :
           position = position_fits;
           text = (plain x p).1;
           value = (plain x p).2;
-          bytes = pass.lengths-fit src s b.end at x k.reads.token kept.place short 0 (omega arith) (omega (arith, nothing));
+          bytes = pass.lengths_fit src s b.end at x k.reads.token kept.place short 0 (omega arith) (omega (arith, nothing));
         }
 
     -- whose starts fit the table
@@ -90,13 +90,13 @@ module _ (src : List ℕ) (s : State) (table list : List ℕ) (b : Skipped) (x :
           record {
             plain = plain_ready short;
             some = (fit (file_of s) table kept.fitted).some;
-            starts = blanks_starts src s b.end at feeds (omega arith) (pass.read-bound src s b.end at x k.reads.token) l;
+            starts = blanks_starts src s b.end at feeds (omega arith) (pass.read_bound src s b.end at x k.reads.token) l;
             table_room = omega (arith, lines_fit);
           }
 
       counted : b.lfs + x.lfs ≡ length (starts_from src s read)
       counted =
-          pass.starts-feeds s.size s.offset read (b.lfs + x.lfs) (chars (drop s.place src)) (pass.read-bound src s b.end at x k.reads.token) (pass.feeds-read src s b.end at x k.reads.token feeds) l
+          pass.starts_feeds s.size s.offset read (b.lfs + x.lfs) (chars (drop s.place src)) (pass.read_bound src s b.end at x k.reads.token) (pass.feeds_read src s b.end at x k.reads.token feeds) l
 
       not_refused : (area : List ℕ) → refusal_by x (s.offset + read) (b.lfs + x.lfs) s (length table) (room_of list) (length area) ≡ 0
       not_refused area =
@@ -132,7 +132,7 @@ module _ (src : List ℕ) (s : State) (table list : List ℕ) (b : Skipped) (x :
     module _ (z : b.lfs + x.lfs ≡ 0) where
       no_starts : starts_from src s (b.end - s.place) ++ start_after x (s.offset + read) ≡ []
       no_starts =
-          let e = blanks_starts src s b.end at feeds (omega arith) (pass.read-bound src s b.end at x k.reads.token) passed.1 in
+          let e = blanks_starts src s b.end at feeds (omega arith) (pass.read_bound src s b.end at x k.reads.token) passed.1 in
           let none : starts_from src s (b.end - s.place) ≡ [] = none_left _ (omega (arith, e)) in
           rw (none, eq-eqb x.lfs 0 (omega arith))
 

@@ -1,17 +1,7 @@
--- `batch::first::first_kinds` meets its contract: the table at the loops' end is computed.
-use Prim.Native.Nat.{ℕ, zero, suc, ◌+◌, ◌-◌, ◌≤◌}
-use Prim.Native.Char.{code}
-use mathlib.Core.Path.{◌≡◌, refl, ap, ◌∙◌}
-use mathlib.Core.List.{List}
-use native.Mathlib.Omega.{arith}
-use lib.Dec.{eqb, eqb→eq}
-use lib.ListN.{get_or, set, replicate}
-use borrow.Author.Rules.{rules}
-use Rattle.basics.proofs.Every.{every_entry}
-use Rattle.kinds.specs.Kinds.{ILLEGAL, IDENT, INT, STRING, ADD, LPAREN, LBRACK, LBRACE, COMMA, PERIOD, RPAREN, RBRACK, RBRACE, SEMICOLON}
-use Rattle.kinds.specs.Table.{operators}
-use Rattle.words.specs.Word.{is_letter}
-use Rattle.batch.specs.Simple.{rows_from, first_kind, IsTable}
+-- The table with the letters and the digits so far.
+use Prim.Native.Nat.{ℕ, ◌-◌, ◌≤◌}
+use mathlib.Core.Path.{◌≡◌}
+use Rattle.batch.proofs.Firsts.{lettered, counted}
 use Rattle.batch.proofs.first.first_kinds.Given as goal
 
 abbrev pub invariant-loop-i : goal.invariant-loop-i

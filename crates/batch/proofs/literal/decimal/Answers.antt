@@ -11,7 +11,7 @@ use Rattle.numbers.proofs.Decimal.{goes_on}
 use Rattle.batch.proofs.Giving.{gives_none}
 use Rattle.batch.proofs.DecimalTokens.{goes_not_on, gives_integer}
 use Rattle.batch.proofs.literal.decimal.Goals as goal
-use Rattle.batch.proofs.literal.decimal.Goals.{After-digits_end-end, Else-next-eq-PERIOD, Joined-src-at-eq48, else-src-at-eq48, then-src-at-eq48}
+use Rattle.batch.proofs.literal.decimal.Goals.{After-digits_end-end, Else-next-eq-PERIOD, Joined-src-at-eq48, else-src-at-eq48, then-src-at-eq48+else-end-at}
 
 pub returns-then-safe-end : goal.returns-then-safe-end
 returns-then-safe-end c =
@@ -40,16 +40,15 @@ returns-then-end-at c =
     gives_none a.src.now a.at a.safe a.position a.tokens.now a.to c.none-then-end-at.ensures
 
 -- the first byte was read
-some : (d : After-digits_end-end) → d.before.before.before.args.at < d.digits-end.result
+some : (d : After-digits_end-end) → d.args.at < d.digits_end-end.result
 some d =
-    let s = d.before.before.before in
-    let a = s.args in
-    let is = d.digits-end.ensures in
-    elim (dec_lt a.at d.digits-end.result) [
+    let a = d.args in
+    let is = d.digits_end-end.ensures in
+    elim (dec_lt a.at d.digits_end-end.result) [
       | yes h ↦ h
       | no h ↦
-          let e : d.digits-end.result ≡ a.at = omega (arith, is.0) in
-          absurd (true≢false (sym s.requires.3 ∙ rw e at (is.3 (omega (arith, e, s.requires.1)))))
+          let e : d.digits_end-end.result ≡ a.at = omega (arith, is.0) in
+          absurd (true≢false (sym d.requires.3 ∙ rw e at (is.3 (omega (arith, e, d.requires.1)))))
     ]
 
 -- the byte after belongs to no number
@@ -65,12 +64,12 @@ behind c =
 alone : (c : Joined-src-at-eq48)
     → let a = c.args in
     get_or a.src.now a.at 0 ≡ 48 → a.at + 1 ≡ c.digits_end-end.result
-alone c e = elim c.if-src-at-eq48.branch [ then-src-at-eq48 w ↦ sym w.1.left | else-src-at-eq48 w ↦ absurd (w.left e) ]
+alone c e = elim c.if-src-at-eq48.branch [ then-src-at-eq48+else-end-at w ↦ sym w.if-end-at.false | else-src-at-eq48 w ↦ absurd (w.if-src-at-eq48.false e) ]
 
 pub returns : goal.returns
 returns c =
     let a = c.args in
     let is = c.digits_end-end.ensures in
     let inside = c.if-safe-end.false in
-    gives_integer a.src.now a.at c.digits_end-end.result (some c.before.before.before.before.before.before.before.before.before.before.before) is.2 (behind (goal.at.returns c).Else-next-eq-PERIOD) (alone (goal.at.returns c).Joined-src-at-eq48)
+    gives_integer a.src.now a.at c.digits_end-end.result (some (goal.at.returns c).After-digits_end-end) is.2 (behind (goal.at.returns c).Else-next-eq-PERIOD) (alone (goal.at.returns c).Joined-src-at-eq48)
     a.safe a.position a.tokens.now a.to (omega (arith, inside)) refl c.put_shown.ensures

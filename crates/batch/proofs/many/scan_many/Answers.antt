@@ -10,12 +10,12 @@ returns-then-tokens-lt-NUMBERS c = rw c.refused.ensures (no_room _ _ _ _ _ _ c.i
 
 pub returns-then-not-fits : goal.returns-then-not-fits
 returns-then-not-fits c =
-    let unfit = sym c.fits.ensures ∙ not-true _ c.if-not-fits.true in
+    let unfit = sym c.fits.ensures ∙ c.if-not-fits.true in
     rw c.refused-then-not-fits.ensures (first_unfit _ _ _ _ _ _ c.if-tokens-lt-NUMBERS.false unfit)
 
 pub scan_rounds-requires : goal.scan_rounds-requires
 scan_rounds-requires c =
-    (sym c.fits.ensures ∙ not-false _ c.if-not-fits.false, c.if-tokens-lt-NUMBERS.false)
+    (sym c.fits.ensures ∙ c.if-not-fits.false, c.if-tokens-lt-NUMBERS.false)
 
 pub returns : goal.returns
 returns c = c.scan_rounds.ensures

@@ -22,8 +22,8 @@ loop-round-init c =
 pub scan_round-round-requires : goal.scan_round-round-requires
 scan_round-round-requires c =
     let l = c.loop-round in
-    let same = l.inv.3 in
-    (l.inv.4.fit, c.first_kinds-firsts.ensures, (c.keyword_numbers-keys.ensures, c.keyword_kinds-values.ensures), l.inv.4.room_left c.loop-round-test.true, omega arith)
+    let same = l.invariant.3 in
+    (l.invariant.4.fit, c.first_kinds-firsts.ensures, (c.keyword_numbers-keys.ensures, c.keyword_kinds-values.ensures), l.invariant.4.room_left c.loop-round-test.true, omega arith)
 
 pub loop-round-smaller : goal.loop-round-smaller
 loop-round-smaller c =

@@ -15,7 +15,7 @@ use Rattle.batch.proofs.near.line_feed.Goals as goal
 use Rattle.batch.proofs.near.line_feed.Goals.{After-eight}
 
 pub returns-then-mark : goal.returns-then-mark
-returns-then-mark c =
+returns-then-mark c e =
     let a = c.args in
     let h = c.requires in
     near_stop a.mark a.src.now a.at a.p h.2 (stop_test a.mark _ (rw (h.1, c.if-mark.true)))
@@ -37,6 +37,6 @@ pub bounds-src-end : goal.bounds-src-end
 bounds-src-end c = omega (arith, (tabs (goal.at.bounds-src-end c).After-eight).few)
 
 pub returns : goal.returns
-returns c =
+returns c e =
     let a = c.args in
     near_line a.mark a.src.now a.at a.p c.requires.2 c.if-mark.false c.requires.1 _ (tabs (goal.at.returns c).After-eight).each (ltb-true _ _ e)

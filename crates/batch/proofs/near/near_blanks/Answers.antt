@@ -13,18 +13,18 @@ use Rattle.batch.proofs.near.near_blanks.Goals.{Joined-b-eq32, else-b-eq32, then
 
 -- the place of the byte that is tested, and that byte
 place : (c : Joined-b-eq32) → let a = c.args in SpaceTo a.src.now a.at c.if-b-eq32.p
-place c = elim c.if-b-eq32.branch [ then-b-eq32 w ↦ inr (w.if-b-eq32.true, w.2) | else-b-eq32 w ↦ inl w.1 ]
+place c = elim c.if-b-eq32.branch [ then-b-eq32 w ↦ inr (w.if-b-eq32.true, w.p-is) | else-b-eq32 w ↦ inl w.p-is ]
 
 byte : (c : Joined-b-eq32) → c.if-b-eq32.b ≡ get_or c.args.src.now c.if-b-eq32.p 0
-byte c = elim c.if-b-eq32.branch [ then-b-eq32 w ↦ rw w.2 w.3 | else-b-eq32 w ↦ rw w.1 w.2 ]
+byte c = elim c.if-b-eq32.branch [ then-b-eq32 w ↦ rw w.p-is w.b-is | else-b-eq32 w ↦ rw w.p-is w.b-is ]
 
 pub returns-then-b-gt32 : goal.returns-then-b-gt32
-returns-then-b-gt32 c =
+returns-then-b-gt32 c e =
     let a = c.args in
     near_stop a.mark a.src.now a.at c.if-b-eq32.p (place (goal.at.returns-then-b-gt32 c).Joined-b-eq32) (blank_above a.mark _ (rw (byte (goal.at.returns-then-b-gt32 c).Joined-b-eq32) at c.if-b-gt32.true))
 
 pub returns-then-b-ne10 : goal.returns-then-b-ne10
-returns-then-b-ne10 c = absurd (false≢true (sym c.no_blanks.ensures ∙ e))
+returns-then-b-ne10 c e = absurd (false≢true (sym c.no_blanks.ensures ∙ e))
 
 pub line_feed-requires : goal.line_feed-requires
 line_feed-requires c =

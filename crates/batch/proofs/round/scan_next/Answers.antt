@@ -14,16 +14,16 @@ use Rattle.batch.proofs.round.scan_next.Goals.{After-scan-scanned, Else-scanned-
 abbrev after : After-scan-scanned → ScanLeft
 after c =
     record {
-      table = c.scan.new.1.1.0;
-      list = c.scan.new.1.1.1.0;
-      area = c.scan.new.1.1.1.1.0;
-      answer = c.scan.result;
+      table = c.scan-scanned.new.table;
+      list = c.scan-scanned.new.list;
+      area = c.scan-scanned.new.area;
+      answer = c.scan-scanned.result;
     }
 
 pub returns-then-scanned-ne0 : goal.returns-then-scanned-ne0
 returns-then-scanned-ne0 c =
     let p = c.requires in
-    rw c.last_round.ensures (comes_refused c.args.room c.args.src.now p.0 p.1 {a = after s} c.scan-scanned.ensures c.if-scanned-ne0.true, λ e. absurd (false≢true e))
+    rw c.last_round.ensures (comes_refused c.args.room c.args.src.now p.0 p.1 {a = after (goal.at.returns-then-scanned-ne0 c).After-scan-scanned} c.scan-scanned.ensures c.if-scanned-ne0.true, λ e. absurd (false≢true e))
 
 -- the numbers of one more token fit
 room_there : (c : Else-scanned-ne0) → let a = c.args in a.from.count * token_width + token_width ≤ length a.tokens.now
@@ -43,6 +43,6 @@ overflow_add-count c =
 pub returns : goal.returns
 returns c =
     let p = c.requires in (
-      comes_given c.args.room c.args.src.now p.0 p.1 {a = after s} c.scan-scanned.ensures c.if-scanned-ne0.false c.put_token_at.ensures c.goes_on.ensures,
+      comes_given c.args.room c.args.src.now p.0 p.1 {a = after (goal.at.returns c).After-scan-scanned} c.scan-scanned.ensures c.if-scanned-ne0.false c.put_token_at.ensures c.goes_on.ensures,
       λ _. omega arith,
     )

@@ -39,7 +39,7 @@ pub loop-at-preserved : goal.loop-at-preserved
 loop-at-preserved c =
     let n = c.next_simple-at in
     let l = c.loop-at in
-    (search rules, search rules, n.ensures.1, λ m. (n.ensures.2 m).1, leads_on _ _ l.inv.4 n.ensures.0)
+    (search rules, search rules, n.ensures.1, λ m. (n.ensures.2 m).1, leads_on _ _ l.invariant.4 n.ensures.0)
 
 pub state_at-state-requires : goal.state_at-state-requires
 state_at-state-requires c =

@@ -16,7 +16,7 @@ use Rattle.batch.specs.Simple.{first_kind}
 use Rattle.batch.proofs.SimpleTokens.{letter_first, first_known, delimiter_read}
 use Rattle.batch.proofs.Giving.{gives_none, gives_plain}
 use Rattle.batch.proofs.simple.delimiter.Goals as goal
-use Rattle.batch.proofs.simple.delimiter.Goals.{Joined-kind-eq-PERIOD, Start, else-kind-eq-PERIOD, then-kind-eq-PERIOD}
+use Rattle.batch.proofs.simple.delimiter.Goals.{Joined-kind-eq-PERIOD, else-kind-eq-PERIOD, then-kind-eq-PERIOD+else-firsts-src-ne-IDENT}
 
 pub overflow_cast-src : goal.overflow_cast-src
 overflow_cast-src c = omega (arith, c.type_inv.src (c.args.at + 1))
@@ -29,10 +29,6 @@ returns-then-firsts-src-ne-IDENT c =
     let a = c.args in
     gives_none a.src.now a.at a.safe a.position a.tokens.now a.to c.none.ensures
 
--- the byte there
-byte_small : (c : Start) → get_or c.args.src.now c.args.at 0 < 256
-byte_small c = omega (arith, c.type_inv.src c.args.at)
-
 -- after a point comes a letter
 letter : (c : Joined-kind-eq-PERIOD)
     → let a = c.args in
@@ -40,13 +36,13 @@ letter : (c : Joined-kind-eq-PERIOD)
 letter c e =
     let a = c.args in
     let next = get_or a.src.now (a.at + 1) 0 in
-    elim c.if-kind-eq-PERIOD.branch [ then-kind-eq-PERIOD w ↦ let small : next < 256 = omega (arith, c.type_inv.src (a.at + 1)) in letter_first next small (sym (c.requires.0.1 next small) ∙ w.3.left) | else-kind-eq-PERIOD w ↦ absurd (w.left (c.requires.3 ∙ e)) ]
+    elim c.if-kind-eq-PERIOD.branch [ then-kind-eq-PERIOD+else-firsts-src-ne-IDENT w ↦ let small : next < 256 = omega (arith, c.type_inv.src (a.at + 1)) in letter_first next small (sym (c.requires.0.1 next small) ∙ w.if-firsts-src-ne-IDENT.false) | else-kind-eq-PERIOD w ↦ absurd (w.if-kind-eq-PERIOD.false (c.requires.3 ∙ e)) ]
 
 pub returns : goal.returns
 returns c =
     let a = c.args in
     let b = get_or a.src.now a.at 0 in
-    let small = byte_small (goal.at.returns c).Start in
+    let small : b < 256 = omega (arith, c.type_inv.src a.at) in
     let is = c.requires.3 in
     let high = c.requires.4 in
     gives_plain a.src.now a.at a.safe a.position a.tokens.now a.to a.kind (a.at + 1) false (sets_mark a.kind) Empty 0

@@ -20,5 +20,5 @@ returns-then-not-is_ready c =
 
 pub returns : goal.returns
 returns c =
-    let ready = c.is_ready.ensures (not-false _ c.if-not-is_ready.false) in
+    let ready = c.is_ready.ensures c.if-not-is_ready.false in
     (c.near_blanks-blanks.ensures, λ _. (ready.1, ready.2))

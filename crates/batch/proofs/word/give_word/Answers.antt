@@ -12,8 +12,8 @@ use Rattle.batch.specs.Simple.{simple_token}
 use Rattle.batch.proofs.word.give_word.Goals as goal
 use Rattle.batch.proofs.word.give_word.Goals.{Joined-kind-eq-IDENT, else-kind-eq-IDENT, then-kind-eq-IDENT}
 
-text_end : (c : Joined-kind-eq-IDENT) → let a = c.args in c.if-kind-eq-IDENT.text-end ≡ cond (eqb a.kind IDENT) a.end a.at
-text_end c = elim c.if-kind-eq-IDENT.branch [ then-kind-eq-IDENT w ↦ rw (eq-eqb _ _ w.if-kind-eq-IDENT.true) w.1 | else-kind-eq-IDENT w ↦ rw (ne_eqb _ _ w.if-kind-eq-IDENT.false) w.1 ]
+text_end : (c : Joined-kind-eq-IDENT) → let a = c.args in c.if-kind-eq-IDENT.text_end ≡ cond (eqb a.kind IDENT) a.end a.at
+text_end c = elim c.if-kind-eq-IDENT.branch [ then-kind-eq-IDENT w ↦ rw (eq-eqb _ _ w.if-kind-eq-IDENT.true) w.text_end-is | else-kind-eq-IDENT w ↦ rw (ne_eqb _ _ w.if-kind-eq-IDENT.false) w.text_end-is ]
 
 pub returns : goal.returns
 returns c =

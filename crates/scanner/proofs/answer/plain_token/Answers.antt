@@ -17,8 +17,8 @@ value_fits true start a b strays e h = omega arith
 value_fits false start a b strays e h = omega arith
 
 -- where the value starts
-from : (c : Joined-x-eq-STRING) → let a = c.args in c.if-x-eq-STRING.value-from ≡ cond (eqb a.x.kind STRING) (a.start + 1) a.start
-from c = elim c.if-x-eq-STRING.branch [ then-x-eq-STRING w ↦ rw (w.1, eq-eqb _ _ w.if-x-eq-STRING.true) | else-x-eq-STRING w ↦ rw (w.1, ne_eqb _ _ w.if-x-eq-STRING.false) ]
+from : (c : Joined-x-eq-STRING) → let a = c.args in c.if-x-eq-STRING.value_from ≡ cond (eqb a.x.kind STRING) (a.start + 1) a.start
+from c = elim c.if-x-eq-STRING.branch [ then-x-eq-STRING w ↦ rw (w.value_from-is, eq-eqb _ _ w.if-x-eq-STRING.true) | else-x-eq-STRING w ↦ rw (w.value_from-is, ne_eqb _ _ w.if-x-eq-STRING.false) ]
 
 pub overflow_add-value_end : goal.overflow_add-value_end
 overflow_add-value_end c =

@@ -16,14 +16,14 @@ use Rattle.scanner.proofs.quick.record_ends.Goals.{Joined-blanks-gt0, else-blank
 -- the line starts of the blanks
 abbrev starts : Joined-blanks-gt0 → List ℕ
 starts c =
-    let a = c.before.before.before.before.args in
+    let a = c.args in
     starts_from a.src.now a.state (a.blanks.end - a.state.place)
 
 -- past the first test they are written
 blanks : (c : Joined-blanks-gt0)
     → c.if-blanks-gt0.table ≡ sets c.args.table.now c.args.state.lines (starts c)
 blanks c =
-    elim c.if-blanks-gt0.branch [ then-blanks-gt0 w ↦ w.7 ∙ w.4.ensures | else-blanks-gt0 w ↦ w.1 ∙ sets_none c.args.table.now c.args.state.lines (starts c) (omega (arith, w.if-blanks-gt0.false, c.requires.1)) ]
+    elim c.if-blanks-gt0.branch [ then-blanks-gt0 w ↦ w.table-is ∙ w.write_starts.ensures | else-blanks-gt0 w ↦ w.table-is ∙ sets_none c.args.table.now c.args.state.lines (starts c) (omega (arith, w.if-blanks-gt0.false, c.requires.1)) ]
 
 blanks_length : (c : Joined-blanks-gt0) → length c.if-blanks-gt0.table ≡ length c.args.table.now
 blanks_length c = ap length (blanks c) ∙ simp length-sets
@@ -37,11 +37,11 @@ shape_of-table-then-x-gt0 c = simp length-set (blanks_length (goal.at.shape_of-t
 
 pub returns-then-x-gt0 : goal.returns-then-x-gt0
 returns-then-x-gt0 c =
-    end_one c.args.table.now c.args.state.lines (starts c.before.before.before.before) (blanks (goal.at.returns-then-x-gt0 c).Joined-blanks-gt0) c.args.x c.args.offset c.requires.1 c.if-x-gt0.true
+    end_one c.args.table.now c.args.state.lines (starts (goal.at.returns-then-x-gt0 c).Joined-blanks-gt0) (blanks (goal.at.returns-then-x-gt0 c).Joined-blanks-gt0) c.args.x c.args.offset c.requires.1 c.if-x-gt0.true
 
 pub shape_of-table-else-x-gt0 : goal.shape_of-table-else-x-gt0
 shape_of-table-else-x-gt0 c = blanks_length (goal.at.shape_of-table-else-x-gt0 c).Joined-blanks-gt0
 
 pub returns-else-x-gt0 : goal.returns-else-x-gt0
 returns-else-x-gt0 c =
-    end_none c.args.table.now c.args.state.lines (starts c.before.before) (blanks (goal.at.returns-else-x-gt0 c).Joined-blanks-gt0) c.args.x c.args.offset c.if-x-gt0.false
+    end_none c.args.table.now c.args.state.lines (starts (goal.at.returns-else-x-gt0 c).Joined-blanks-gt0) (blanks (goal.at.returns-else-x-gt0 c).Joined-blanks-gt0) c.args.x c.args.offset c.if-x-gt0.false

@@ -13,23 +13,23 @@ use Rattle.scanner.proofs.quick.try_plain.Goals.{Else-not-ends_in_feed, Else-not
 
 -- the source is short of half the numbers
 short : (s : Start) → length s.args.src.now < 2 ^ 63
-short s = omega (arith, s.well-formed.0.1)
+short s = omega (arith, s.well_formed.0.1)
 
 pub overflow_add-offset : goal.overflow_add-offset
-overflow_add-offset c = record { fits = offset_fits _ _ _ _ _ _ _ c.requires (short c.before.before.before.before) }
+overflow_add-offset c = record { fits = offset_fits _ _ _ _ _ _ _ c.requires (short (goal.at.overflow_add-offset c).Start) }
 
 pub returns-then-not-is_quick : goal.returns-then-not-is_quick
 returns-then-not-is_quick c = tries_none _ _ _ _ c.not_done.ensures
 
 quick : (c : Else-not-is_quick) → let a = c.args in is_quick a.state a.x (a.state.offset + a.read) ≡ true
-quick c = sym c.is_quick.ensures ∙ not-false _ c.if-not-is_quick.false
+quick c = sym c.is_quick.ensures ∙ c.if-not-is_quick.false
 
 pub overflow_add-feeds : goal.overflow_add-feeds
-overflow_add-feeds c = record { fits = feeds_fit _ _ _ _ _ _ _ c.requires (short c.before.before.before.before.before.before.before.before) }
+overflow_add-feeds c = record { fits = feeds_fit _ _ _ _ _ _ _ c.requires (short (goal.at.overflow_add-feeds c).Start) }
 
 pub given-requires : goal.given-requires
 given-requires c =
-    quick_plain _ _ _ _ _ _ _ c.requires (quick (goal.at.given-requires c).Else-not-is_quick) (short c.before.before.before.before.before.before.before.before.before)
+    quick_plain _ _ _ _ _ _ _ c.requires (quick (goal.at.given-requires c).Else-not-is_quick) (short (goal.at.given-requires c).Start)
 
 pub returns-then-feeds-eq0 : goal.returns-then-feeds-eq0
 returns-then-feeds-eq0 c =
@@ -42,7 +42,7 @@ pub returns-then-not-ends_in_feed : goal.returns-then-not-ends_in_feed
 returns-then-not-ends_in_feed c = tries_none _ _ _ _ c.not_done-then-not-ends_in_feed.ensures
 
 ends : (c : Else-not-ends_in_feed) → let a = c.args in ends_in_feed a.src.now a.x ≡ true
-ends c = sym c.ends_in_feed.ensures ∙ not-false _ c.if-not-ends_in_feed.false
+ends c = sym c.ends_in_feed.ensures ∙ c.if-not-ends_in_feed.false
 
 pub overflow_sub-table : goal.overflow_sub-table
 overflow_sub-table c = lines_fit _ _ _ _ _ _ _ c.requires
@@ -52,7 +52,7 @@ returns-then-table-state c = tries_none _ _ _ _ c.not_done-then-table-state.ensu
 
 pub give_quick-requires : goal.give_quick-requires
 give_quick-requires c =
-    quick_ready _ _ _ _ _ _ _ c.requires (quick (goal.at.give_quick-requires c).Else-not-is_quick) (ends (goal.at.give_quick-requires c).Else-not-ends_in_feed) c.if-table-state.false (short c.before.before.before.before.before.before.before.before.before.before.before.before.before.before)
+    quick_ready _ _ _ _ _ _ _ c.requires (quick (goal.at.give_quick-requires c).Else-not-is_quick) (ends (goal.at.give_quick-requires c).Else-not-ends_in_feed) c.if-table-state.false (short (goal.at.give_quick-requires c).Start)
 
 pub returns : goal.returns
 returns c =

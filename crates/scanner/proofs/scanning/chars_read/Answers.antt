@@ -16,9 +16,9 @@ start_at : (s : Start) → let a = s.args in a.blanks.end ≡ a.state.place + (s
 start_at s = ap (λ (b : Skipped). b.end) s.requires.1.skipped
 
 pub overflow_sub-result : goal.overflow_sub-result
-overflow_sub-result c = start_behind c.args.src.now c.args.state c.args.blanks.end (start_at c.before.before)
+overflow_sub-result c = start_behind c.args.src.now c.args.state c.args.blanks.end (start_at (goal.at.overflow_sub-result c).Start)
 
 pub overflow_add-result : goal.overflow_add-result
 overflow_add-result c =
     let a = c.args in
-    record { fits = read_fits a.src.now a.state a.blanks.end (start_at c.before.before.before) a.x c.requires.1.token c.requires.0 (omega (arith, c.well_formed.0.1)) }
+    record { fits = read_fits a.src.now a.state a.blanks.end (start_at (goal.at.overflow_add-result c).Start) a.x c.requires.1.token c.requires.0 (omega (arith, c.well_formed.0.1)) }

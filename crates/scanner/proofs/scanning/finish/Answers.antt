@@ -21,10 +21,10 @@ kept s = held _ _ _ _ s.requires.holds
 
 -- source and area are short of half the numbers
 short : (s : Start) → length s.args.src.now < 2 ^ 63
-short s = omega (arith, s.well-formed.0.1)
+short s = omega (arith, s.well_formed.0.1)
 
 small : (s : Start) → length s.args.area.now < 2 ^ 63
-small s = omega (arith, s.well-formed.1.1.1.1.1.1.1.0.1)
+small s = omega (arith, s.well_formed.1.1.1.1.1.1.1.0.1)
 
 -- the token was lexed after the blanks
 start_at : (s : Start) → let a = s.args in a.blanks.end ≡ a.state.place + (skip a.state.mark (chars (drop a.state.place a.src.now))).len
@@ -40,73 +40,67 @@ offset_reached s =
     rw s.requires.chars (offset_fits a.src.now a.state a.blanks.end (start_at s) a.x s.requires.reads.token (kept s).place (short s) (kept s).offset)
 
 pub overflow_add-offset : goal.overflow_add-offset
-overflow_add-offset c = record { fits = offset_reached c.before.before.before.before.before }
+overflow_add-offset c = record { fits = offset_reached (goal.at.overflow_add-offset c).Start }
 
 pub overflow_add-blanks : goal.overflow_add-blanks
 overflow_add-blanks c =
     let a = c.args in
-    record { fits = feeds_fit a.src.now a.state a.blanks.end (start_at c.before.before.before.before.before.before.before.before.before) a.x c.requires.reads.token (kept c.before.before.before.before.before.before.before.before.before).place (short c.before.before.before.before.before.before.before.before.before) (feeds_at c.before.before.before.before.before.before.before.before.before) }
+    record { fits = feeds_fit a.src.now a.state a.blanks.end (start_at (goal.at.overflow_add-blanks c).Start) a.x c.requires.reads.token (kept (goal.at.overflow_add-blanks c).Start).place (short (goal.at.overflow_add-blanks c).Start) (feeds_at (goal.at.overflow_add-blanks c).Start) }
 
 pub starts_read-starts-requires : goal.starts_read-starts-requires
 starts_read-starts-requires c =
     let a = c.args in (
-      rw c.requires.chars (read_bound a.src.now a.state a.blanks.end (start_at c.before.before.before.before.before.before.before.before.before) a.x c.requires.reads.token),
-      rw c.requires.chars (feeds_read a.src.now a.state a.blanks.end (start_at c.before.before.before.before.before.before.before.before.before) a.x c.requires.reads.token (feeds_at c.before.before.before.before.before.before.before.before.before)),
-      offset_reached c.before.before.before.before.before.before.before.before.before,
+      rw c.requires.chars (read_bound a.src.now a.state a.blanks.end (start_at (goal.at.starts_read-starts-requires c).Start) a.x c.requires.reads.token),
+      rw c.requires.chars (feeds_read a.src.now a.state a.blanks.end (start_at (goal.at.starts_read-starts-requires c).Start) a.x c.requires.reads.token (feeds_at (goal.at.starts_read-starts-requires c).Start)),
+      offset_reached (goal.at.starts_read-starts-requires c).Start,
     )
-
--- the call's start, from where the starts were counted
-abbrev entry : After-starts_read-starts → Start
-entry t = let r = t.before.before.before in r.before.before.before.before.before.before.before
 
 pub refusal_of-number-requires : goal.refusal_of-number-requires
 refusal_of-number-requires c =
-    let k = kept (entry c) in
+    let k = kept ((goal.at.refusal_of-number-requires c).Start) in
     ((fit _ _ k.fitted).held, rw c.room-room.ensures k.errors)
 
 -- the first refusal
 number : (c : After-refusal_of-number)
-    → let a = (entry c.before).args in
+    → let a = c.args in
     c.refusal_of-number.result
     ≡ refusal_by a.x (a.state.offset + (a.blanks.end - a.state.place + a.x.chars)) c.starts_read-starts.result a.state (length a.table.now) (room_of a.list.now) (length a.area.now)
 number c =
-    let s = entry c.before in
-    let a = s.args in
+    let a = c.args in
     c.refusal_of-number.ensures
-    ∙ ap (λ (m : ℕ). refusal_by a.x (a.state.offset + m) c.starts_read-starts.result a.state (length a.table.now) c.room-room.result (length a.area.now)) s.pre.chars
+    ∙ ap (λ (m : ℕ). refusal_by a.x (a.state.offset + m) c.starts_read-starts.result a.state (length a.table.now) c.room-room.result (length a.area.now)) c.requires.chars
     ∙ ap (λ (m : ℕ). refusal_by a.x (a.state.offset + (a.blanks.end - a.state.place + a.x.chars)) c.starts_read-starts.result a.state (length a.table.now) m (length a.area.now)) c.room-room.ensures
 
 -- the line starts that were counted
 counted : (t : After-starts_read-starts)
-    → let a = (entry t).args in t.starts-read.result ≡ length (starts_from a.src.now a.state (a.blanks.end - a.state.place + a.x.chars))
+    → let a = t.args in t.starts_read-starts.result ≡ length (starts_from a.src.now a.state (a.blanks.end - a.state.place + a.x.chars))
 counted t =
-    let s = entry t in
-    t.starts-read.ensures ∙ ap (λ (m : ℕ). length (starts_from s.args.src.now s.args.state m)) s.pre.chars
+    t.starts_read-starts.ensures ∙ ap (λ (m : ℕ). length (starts_from t.args.src.now t.args.state m)) t.requires.chars
 
 pub returns-then-number-ne0 : goal.returns-then-number-ne0
 returns-then-number-ne0 c =
-    let s = entry c.before.before.before in
+    let s = (goal.at.returns-then-number-ne0 c).Start in
     let a = s.args in
     rw c.refused.ensures
     (sym
-    (scan_refused a.src.now a.state a.table.now a.list.now a.area.now (kept s) a.blanks.end (start_at s) a.x s.pre.reads.token
-    s.pre.holds c.starts_read-starts.result (counted c.before.before.before) c.refusal_of-number.result (number (goal.at.returns-then-number-ne0 c).After-refusal_of-number) c.if-number-ne0.true))
+    (scan_refused a.src.now a.state a.table.now a.list.now a.area.now (kept s) a.blanks.end (start_at s) a.x s.requires.reads.token
+    s.requires.holds c.starts_read-starts.result (counted (goal.at.returns-then-number-ne0 c).After-starts_read-starts) c.refusal_of-number.result (number (goal.at.returns-then-number-ne0 c).After-refusal_of-number) c.if-number-ne0.true))
 
 pub commit-requires : goal.commit-requires
 commit-requires c =
-    let s = entry c.before.before.before.before.before in
+    let s = (goal.at.commit-requires c).Start in
     let a = s.args in
     subst (λ (m : ℕ). Ready a.src.now a.state a.blanks.end a.x m c.starts_read-starts.result a.table.now a.list.now a.area.now)
-    (sym s.pre.chars)
-    (ready a.src.now a.state a.table.now a.list.now a.area.now (kept s) a.blanks.end (start_at s) a.x s.pre.reads.token
-    s.pre.holds c.starts_read-starts.result (counted c.before.before.before.before.before) (short s) (small s) (sym (number (goal.at.commit-requires c).After-refusal_of-number) ∙ c.if-number-ne0.false))
+    (sym s.requires.chars)
+    (ready a.src.now a.state a.table.now a.list.now a.area.now (kept s) a.blanks.end (start_at s) a.x s.requires.reads.token
+    s.requires.holds c.starts_read-starts.result (counted (goal.at.commit-requires c).After-starts_read-starts) (short s) (small s) (sym (number (goal.at.commit-requires c).After-refusal_of-number) ∙ c.if-number-ne0.false))
 
 pub returns : goal.returns
 returns c =
-    let s = entry c.before.before.before.before.before.before.before.before.before.before.before.before in
+    let s = (goal.at.returns c).Start in
     let a = s.args in
     c.commit.ensures
-    ∙ ap (λ (m : ℕ). commit_of a.src.now a.state a.blanks.end a.x m c.starts_read-starts.result a.table.now a.list.now a.area.now) s.pre.chars
+    ∙ ap (λ (m : ℕ). commit_of a.src.now a.state a.blanks.end a.x m c.starts_read-starts.result a.table.now a.list.now a.area.now) s.requires.chars
     ∙ sym
-    (scan_gave a.src.now a.state a.table.now a.list.now a.area.now (kept s) a.blanks.end (start_at s) a.x s.pre.reads.token
-    s.pre.holds c.starts_read-starts.result (counted c.before.before.before.before.before.before.before.before.before.before.before.before) (sym (number (goal.at.returns c).After-refusal_of-number) ∙ c.if-number-ne0.false))
+    (scan_gave a.src.now a.state a.table.now a.list.now a.area.now (kept s) a.blanks.end (start_at s) a.x s.requires.reads.token
+    s.requires.holds c.starts_read-starts.result (counted (goal.at.returns c).After-starts_read-starts) (sym (number (goal.at.returns c).After-refusal_of-number) ∙ c.if-number-ne0.false))

@@ -9,7 +9,7 @@ use borrow.Author.Rules.{rules}
 use Rattle.scanner.specs.Steps.{text_len}
 use Rattle.scanner.proofs.Refusals.{half_over, half_fits, half_left, over_text, over_value, fits_value, fits_text}
 use Rattle.scanner.proofs.scanning.has_room.Goals as goal
-use Rattle.scanner.proofs.scanning.has_room.Goals.{Joined-x, else-x, then-x}
+use Rattle.scanner.proofs.scanning.has_room.Goals.{Joined-x, else-x, then-x+else-x-room+else-x-room-2}
 
 pub returns-then-x-room : goal.returns-then-x-room
 returns-then-x-room c =
@@ -24,7 +24,7 @@ returns-then-x-room-2 c =
 -- the room after the text
 room_left : (c : Joined-x) → let a = c.args in cond a.x.text_differs (text_len a.x) 0 + c.if-x.room ≡ a.area
 room_left c =
-    elim c.if-x.branch [ then-x w ↦ rw (w.if-x.true, w.7) (half_left _ _ _ w.2.left w.5.left) | else-x w ↦ rw (w.if-x.false, w.1, zero-add) ]
+    elim c.if-x.branch [ then-x+else-x-room+else-x-room-2 w ↦ rw (w.if-x.true, w.room-is) (half_left _ _ _ w.if-x-room.false w.if-x-room-2.false) | else-x w ↦ rw (w.if-x.false, w.room-is, zero-add) ]
 
 pub returns-then-x-room-3 : goal.returns-then-x-room-3
 returns-then-x-room-3 c =

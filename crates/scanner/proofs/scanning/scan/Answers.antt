@@ -11,7 +11,7 @@ returns-then-not-fits c =
     rw c.refused.ensures
     (sym
     (scan_unfit a.src.now a.state a.table.now a.list.now a.area.now
-    (sym c.fits.ensures ∙ not-true _ c.if-not-fits.true)))
+    (sym c.fits.ensures ∙ c.if-not-fits.true)))
 
 pub scan_next-requires : goal.scan_next-requires
-scan_next-requires c = sym c.fits.ensures ∙ not-false _ c.if-not-fits.false
+scan_next-requires c = sym c.fits.ensures ∙ c.if-not-fits.false

@@ -14,27 +14,23 @@ chars_read-read-requires c =
     let a = c.args in
     ((held a.state a.src.now a.table.now a.list.now c.requires).place, record { skipped = c.skip_blanks-blanks.ensures; token = c.lex_token-x.ensures })
 
--- the call's start, from where the token was tried
-abbrev entry : After-try_plain-tried → Start
-entry t = let l = t.before.before.before.before in l.before.before.before.before.before.before
-
 -- where it is not done, the table is as it was
-unchanged : (c : Then-not-tried) → c.try_plain-tried.new.1.1.1.1.1.0 ≡ (entry c.before.before.before.before).args.table.now
+unchanged : (c : Then-not-tried) → c.try_plain-tried.new.table ≡ c.args.table.now
 unchanged c = c.try_plain-tried.ensures.0 (not-true _ c.if-not-tried.true)
 
 pub finish-requires : goal.finish-requires
 finish-requires c =
     record {
-      holds = rw (unchanged (goal.at.finish-requires c).Then-not-tried) (entry c.before.before.before.before.before.before.before).requires;
+      holds = rw (unchanged (goal.at.finish-requires c).Then-not-tried) c.requires;
       reads = record { skipped = c.skip_blanks-blanks.ensures; token = c.lex_token-x.ensures };
       chars = c.chars_read-read.ensures;
     }
 
 pub returns-then-not-tried : goal.returns-then-not-tried
 returns-then-not-tried c =
-    let a = (entry c.before.before.before.before.before.before.before.before.before.before.before.before.before.before).args in
+    let a = c.args in
     c.finish.ensures ∙ ap (λ (t : List ℕ). scan_of a.src.now a.state t a.list.now a.area.now) (unchanged (goal.at.returns-then-not-tried c).Then-not-tried)
 
 pub returns : goal.returns
 returns c =
-    rw c.gave.ensures (sym (c.try_plain-tried.ensures.1 (not-false _ c.if-not-tried.false) (entry c.before.before.before.before.before).args.area.now))
+    rw c.gave.ensures (sym (c.try_plain-tried.ensures.1 (not-false _ c.if-not-tried.false) c.args.area.now))

@@ -27,7 +27,7 @@ texted : (c : Joined-x)
     → let a = c.args in TextWritten a.area.now (said a.src.now a.start a.x).lexeme.text a.x.text_differs c.if-x.area c.if-x.to
 unfolding said
 texted c =
-    elim c.if-x.branch [ then-x w ↦ text_written _ _ w.if-x.true (w.7 ∙ w.2.ensures) (w.8 ∙ sym (rw w.if-x.true at c.requires.4)) | else-x w ↦ text_none _ _ w.if-x.false w.1 w.2 ]
+    elim c.if-x.branch [ then-x w ↦ text_written _ _ w.if-x.true (w.area-is ∙ w.write_text.ensures) (w.to-is ∙ sym (rw w.if-x.true at c.requires.4)) | else-x w ↦ text_none _ _ w.if-x.false w.area-is w.to-is ]
 
 -- in an area that stays as long as it was
 kept : (c : Joined-x) → length c.if-x.area ≡ length c.args.area.now
