@@ -1,6 +1,6 @@
 -- Laws of what a code is written in, by its range: how many bytes, and the byte at a place.
 use Prim.Native.Nat.{ℕ, zero, suc, ◌+◌, ◌-◌, ◌/◌, ◌%◌, ◌≤◌, ◌<◌}
-use mathlib.Core.Path.{◌≡◌, refl, ◌∙◌}
+use mathlib.Core.Path.{◌≡◌, refl, ap, ◌∙◌}
 use mathlib.Core.Bool.{cond}
 use mathlib.Core.List.{List, [], ◌∷◌}
 use mathlib.Core.Logic.{◌⊎◌, inl, inr, ⊎_elim}
@@ -114,3 +114,27 @@ lead_most n =
     cond_ind (λ x. x ≤ 0xF0) (eqb n 1) _ _ (λ _. omega arith)
     (λ _. cond_ind (λ x. x ≤ 0xF0) (eqb n 2) _ _ (λ _. omega arith)
     (λ _. cond_ind (λ x. x ≤ 0xF0) (eqb n 3) _ _ (λ _. omega arith) (λ _. omega arith)))
+
+-- ---- how many bytes a code is written in, by its range
+pub long_one : (n : ℕ) → n < 0x80 → length (encode n) ≡ 1
+long_one n h = ap length (encode_one n h)
+
+pub long_two : (n : ℕ) → 0x80 ≤ n → n < 0x800 → length (encode n) ≡ 2
+long_two n l h = ap length (encode_two n l h)
+
+pub long_three : (n : ℕ) → 0x800 ≤ n → n < 0xD800 → length (encode n) ≡ 3
+long_three n l h = ap length (encode_three n l (omega arith) (inl h))
+
+pub long_none : (n : ℕ) → 0xD800 ≤ n → n < 0xE000 → length (encode n) ≡ 0
+long_none n l h = ap length (encode_surrogate n l h)
+
+pub long_three_above : (n : ℕ) → 0xE000 ≤ n → n < 0x10000 → length (encode n) ≡ 3
+long_three_above n l h = ap length (encode_three n (omega arith) h (inr l))
+
+pub long_four : (n : ℕ) → 0x10000 ≤ n → n < 0x110000 → length (encode n) ≡ 4
+long_four n l h = ap length (encode_four n l h)
+
+pub long_above : (n : ℕ) → 0x110000 ≤ n → length (encode n) ≡ 0
+long_above n l = ap length (encode_above n l)
+
+pub ruleset lengths = (long_one, long_two, long_three, long_none, long_three_above, long_four, long_above)

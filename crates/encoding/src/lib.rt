@@ -6,6 +6,7 @@ ghost use Rattle.utf8.specs.Chars.{encode};
 ghost use Rattle.encoding.specs.Steps.{digit, lead};
 
 // How many bytes a code is written in, 0 where it is no Unicode scalar value.
+#[tactic(auto, using(crate::proofs::Written::lengths))]
 pub fn encoded_len(code: u32) -> usize
     ensures { result ≡ length (encode code) }
 {
