@@ -15,6 +15,9 @@ slice_bounds-decimal_by-end c =
 pub slice_bounds-decimal_by-count : goal.slice_bounds-decimal_by-count
 slice_bounds-decimal_by-count c = rw c.find-e.ensures (place_within (code "e") _)
 
+pub slice_bounds-decimal_by-start : goal.slice_bounds-decimal_by-start
+slice_bounds-decimal_by-start c = rw c.find-e.ensures (place_within (code "e") _)
+
 pub returns : goal.returns
 unfolding decimal_in
 returns c =
