@@ -2,7 +2,6 @@
 use Prim.Native.Char.{code}
 use mathlib.Core.Path.{sym}
 use lib.Seq.{length-take-le}
-use borrow.Author.Rules.{rules}
 use Rattle.quantity.specs.Text.{decimal_in}
 use Rattle.quantity.proofs.Texts.{place_within, rest_all}
 use Rattle.quantity.proofs.decimal.Goals as goal

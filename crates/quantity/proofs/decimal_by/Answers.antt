@@ -6,7 +6,6 @@ use mathlib.Core.Logic.{⊎_elim}
 use mathlib.Core.List.{List}
 use native.Mathlib.Omega.{arith}
 use lib.ListN.{length, take, drop, length-take, length-drop}
-use borrow.Author.Rules.{rules}
 use Rattle.quantity.specs.declared.figures.Figures.{Figures}
 use Rattle.quantity.specs.declared.figures.Figures.TheVariants.{Short}
 use Rattle.quantity.specs.Pair.{pair_of}

@@ -1,6 +1,5 @@
 -- `quantity::gave_whole` meets its contract: a number that 64 bits hold is m, and k is 0.
 use mathlib.Core.Path.{sym, ap, ◌∙◌}
-use borrow.Author.Rules.{rules}
 use Rattle.quantity.specs.Pair.{pair}
 use Rattle.quantity.proofs.Capped.{fits_is, fits_low, over_is}
 use Rattle.quantity.proofs.Shifts.{whole_found, whole_wide}

@@ -1,18 +1,11 @@
 -- `quantity::quantity_of` meets its contract: by the base.
 use mathlib.Core.Path.{◌≡◌, refl, sym, ap, ◌∙◌}
 use mathlib.Core.Bool.{false}
-use mathlib.Core.List.{[], ◌∷◌}
-use mathlib.Core.Logic.{⊎_elim}
-use native.Mathlib.Omega.{arith}
 use lib.Dec.{eqb}
-use types.Run.{OneOf}
-use denote.Enum.Declared.{tag_of, declared}
-use borrow.Author.Rules.{rules}
 use Rattle.quantity.specs.declared.whole.Base.{Base}
 use Rattle.quantity.specs.declared.whole.Base.TheVariants.{Binary, Octal, Decimal, Hexadecimal}
 use Rattle.quantity.specs.Text.{digits_of, base_of, denoted}
 use Rattle.quantity.specs.Whole.{base_number, capped}
-use Rattle.quantity.specs.contracts.whole.Base.{enum}
 use Rattle.quantity.proofs.Values.{whole_denotes}
 use Rattle.quantity.proofs.quantity_of.Goals as goal
 

@@ -1,11 +1,6 @@
 -- `quantity::settled` meets its contract: by what is known of the two powers.
-use Prim.Native.Nat.{ℕ}
-use mathlib.Core.Path.{◌≡◌, sym, ◌∙◌}
+use mathlib.Core.Path.{sym, ◌∙◌}
 use native.Mathlib.Omega.{arith}
-use borrow.Author.Rules.{rules}
-use Rattle.quantity.specs.Pair.{Rational}
-use Rattle.quantity.specs.Whole.{capped}
-use Rattle.quantity.specs.Figures.{Denotes}
 use Rattle.quantity.proofs.Capped.{over_is}
 use Rattle.quantity.proofs.Shifts.{known, up_is, down_found, down_deep, far_up, far_down}
 use Rattle.quantity.proofs.settled.Goals as goal

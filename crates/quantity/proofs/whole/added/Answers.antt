@@ -1,7 +1,6 @@
 -- `quantity::whole::added` meets its contract: a sum that does not fit is none that 64 bits hold.
 use mathlib.Core.Path.{sym, ◌∙◌}
 use native.Mathlib.Omega.{arith}
-use borrow.Author.Rules.{rules}
 use Rattle.quantity.proofs.Capped.{fits, over, fits_is, over_is}
 use Rattle.quantity.proofs.whole.added.Goals as goal
 
