@@ -1,5 +1,6 @@
 -- `quantity::base_by` meets its contract: by the two bytes.
 use Prim.Native.Char.{code}
+use borrow.Author.Rules.{rules}
 use borrow.Author.Tests.{ne_eqb}
 use Rattle.quantity.proofs.base_by.Goals as goal
 
@@ -16,4 +17,4 @@ pub returns-in-98 : goal.returns-in-98
 returns-in-98 c = rw (c.if-first-ne48.false, c.in-98.is)
 
 pub returns-in_default : goal.returns-in_default
-returns-in_default c = rw (c.if-first-ne48.false, ne_eqb _ (code "x") c.in_default.rest.0.0.1, ne_eqb _ (code "o") c.in_default.rest.0.1, ne_eqb _ (code "b") c.in_default.rest.1)
+returns-in_default c = rw (c.if-first-ne48.false, ne_eqb c.args.second (code "x") (search rules), ne_eqb c.args.second (code "o") (search rules), ne_eqb c.args.second (code "b") (search rules))

@@ -1,6 +1,5 @@
 -- `quantity::base_of` meets its contract: by the first two bytes.
 use mathlib.Core.Path.{ap₂, ◌∙◌}
-use borrow.Author.Rules.{rules}
 use Rattle.quantity.specs.Text.{base_by, base_of}
 use Rattle.quantity.proofs.base_of.Goals as goal
 

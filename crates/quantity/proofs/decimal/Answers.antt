@@ -2,7 +2,6 @@
 use Prim.Native.Char.{code}
 use mathlib.Core.Path.{sym}
 use lib.Seq.{length-take-le}
-use borrow.Author.Rules.{rules}
 use Rattle.quantity.specs.Text.{decimal_in}
 use Rattle.quantity.proofs.Texts.{place_within, rest_all}
 use Rattle.quantity.proofs.decimal.Goals as goal
@@ -14,6 +13,9 @@ slice_bounds-decimal_by-end c =
 
 pub slice_bounds-decimal_by-count : goal.slice_bounds-decimal_by-count
 slice_bounds-decimal_by-count c = rw c.find-e.ensures (place_within (code "e") _)
+
+pub slice_bounds-decimal_by-start : goal.slice_bounds-decimal_by-start
+slice_bounds-decimal_by-start c = rw c.find-e.ensures (place_within (code "e") _)
 
 pub returns : goal.returns
 unfolding decimal_in

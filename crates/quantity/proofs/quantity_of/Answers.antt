@@ -1,26 +1,19 @@
 -- `quantity::quantity_of` meets its contract: by the base.
 use mathlib.Core.Path.{◌≡◌, refl, sym, ap, ◌∙◌}
 use mathlib.Core.Bool.{false}
-use mathlib.Core.List.{[], ◌∷◌}
-use mathlib.Core.Logic.{⊎_elim}
-use native.Mathlib.Omega.{arith}
 use lib.Dec.{eqb}
-use types.Run.{OneOf}
-use denote.Enum.Declared.{tag_of, declared}
-use borrow.Author.Rules.{rules}
 use Rattle.quantity.specs.declared.whole.Base.{Base}
 use Rattle.quantity.specs.declared.whole.Base.TheVariants.{Binary, Octal, Decimal, Hexadecimal}
 use Rattle.quantity.specs.Text.{digits_of, base_of, denoted}
 use Rattle.quantity.specs.Whole.{base_number, capped}
-use Rattle.quantity.specs.contracts.whole.Base.{enum}
 use Rattle.quantity.proofs.Values.{whole_denotes}
 use Rattle.quantity.proofs.quantity_of.Goals as goal
 
 -- any base but ten
-not_ten : (b : Base) → OneOf (0 ∷ 1 ∷ 3 ∷ []) (tag_of (declared enum) b) → eqb (base_number b) 10 ≡ false
+not_ten : (b : Base) → (b ≡ Decimal → ⊥) → eqb (base_number b) 10 ≡ false
 not_ten Binary k = refl
 not_ten Octal k = refl
-not_ten Decimal k = absurd (⊎_elim (λ h. omega arith) (⊎_elim (λ h. omega arith) (λ h. omega arith)) k)
+not_ten Decimal k = absurd (k refl)
 not_ten Hexadecimal k = refl
 
 pub returns-in-Decimal : goal.returns-in-Decimal
@@ -33,6 +26,6 @@ pub returns-in_default : goal.returns-in_default
 unfolding denoted
 returns-in_default c =
     let text = c.args.text.now in
-    let other : eqb (base_of text) 10 ≡ false = ap (λ n. eqb n 10) (sym c.base_of.ensures) ∙ not_ten c.base_of.result c.in_default.keys2 in
+    let other : eqb (base_of text) 10 ≡ false = ap (λ n. eqb n 10) (sym c.base_of.ensures) ∙ not_ten c.base_of.result c.in_default.not-Decimal in
     rw other
     (c.gave_whole.ensures _ _ (c.whole_number.ensures ∙ ap (λ n. capped (digits_of n text)) c.base_of.ensures) (whole_denotes (base_of text) text))

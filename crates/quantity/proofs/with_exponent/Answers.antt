@@ -3,7 +3,6 @@ use Prim.Native.Char.{code}
 use mathlib.Core.Path.{sym, ◌∙◌}
 use mathlib.Core.Logic.{inl, inr}
 use native.Mathlib.Omega.{arith}
-use borrow.Author.Rules.{rules}
 use borrow.Author.Tests.{eq-eqb, ne_eqb}
 use Rattle.quantity.proofs.Capped.{fits}
 use Rattle.quantity.proofs.Values.{raised, lowered}

@@ -1,5 +1,4 @@
 -- `quantity::figures::appended` meets its contract: by what the product and the sum say.
-use borrow.Author.Rules.{rules}
 use Rattle.quantity.proofs.figures.appended.Goals as goal
 
 pub returns : goal.returns

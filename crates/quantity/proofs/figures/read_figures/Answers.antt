@@ -1,17 +1,15 @@
-use Prim.Native.Nat.{ℕ, ◌+◌, ◌-◌, ◌*◌, ◌%◌, ◌^◌, ◌≤◌}
+use Prim.Native.Nat.{ℕ, ◌+◌, ◌*◌, ◌%◌, ◌^◌, ◌≤◌}
 use mathlib.Core.Path.{◌≡◌, refl, sym, ap, ◌∙◌}
 use mathlib.Core.Logic.{◌≢◌, inl, inr}
 use native.Mathlib.Omega.{arith}
 use native.Mathlib.Nat.{zero-mul}
-use borrow.Author.Rules.{rules}
-use lib.ListN.{length, drop, get_or}
+use lib.ListN.{drop, get_or}
 use Rattle.digits.specs.Digit.{digit_val}
 use Rattle.quantity.specs.Text.{digits_from, digits_of}
-use Rattle.quantity.specs.Figures.{Bare}
 use Rattle.quantity.proofs.Capped.{fits_is, over_is, bare_some}
 use Rattle.quantity.proofs.Texts.{digits_end, digits_other, digit_zero, digit_some, too_long}
 use Rattle.quantity.proofs.figures.read_figures.Goals as goal
-use Rattle.quantity.proofs.figures.read_figures.Goals.{At-loop-p, Else-d-eq0}
+use Rattle.quantity.proofs.figures.read_figures.Goals.{Else-d-eq0}
 
 pub loop-p-init : goal.loop-p-init
 loop-p-init c =
@@ -47,38 +45,33 @@ appended-requires c = c.requires
 
 -- ---- another digit
 module _ (e : Else-d-eq0) where
-  abbrev at : At-loop-p
-  at = e.before.before.before.before.before
-
   abbrev more : ℕ
-  more = e.before.before.digit.result + at.loop.m * at.before.before.args.base ^ (at.loop.zeros + 1)
+  more = e.digit-d.result + e.loop-p.m * e.args.base ^ (e.loop-p.zeros + 1)
 
   -- the number with the digit, and that it does not end in a zero
-  more_is : digits_of at.before.before.args.base at.before.before.args.text.now
-      ≡ digits_from at.before.before.args.base (more * at.before.before.args.base ^ 0) (drop (at.loop.p + 1) at.before.before.args.text.now)
+  more_is : digits_of e.args.base e.args.text.now ≡ digits_from e.args.base (more * e.args.base ^ 0) (drop (e.loop-p.p + 1) e.args.text.now)
   more_is =
-      let g = e.before.before in
-      let a = at.before.before.args in
-      at.loop.inv.3
-      ∙ digit_some a.base at.before.before.pre.0 a.text.now at.loop.p at.loop.m at.loop.zeros g.digit.result g.before.before.loop-test.taken g.digit.ensures
-      e.before.if1.left
+      e.loop-p.invariant.3
+      ∙ digit_some e.args.base e.requires.0 e.args.text.now e.loop-p.p e.loop-p.m e.loop-p.zeros e.digit-d.result e.loop-p-test.true e.digit-d.ensures
+      e.if-base-d.false
 
-  more_bare : more % at.before.before.args.base ≢ 0
-  more_bare =
-      bare_some at.before.before.args.base at.before.before.pre.0 at.loop.m at.loop.zeros e.before.before.digit.result e.before.if1.left e.if2.left
+  more_bare : more % e.args.base ≢ 0
+  more_bare = bare_some e.args.base e.requires.0 e.loop-p.m e.loop-p.zeros e.digit-d.result e.if-base-d.false e.if-d-eq0.false
 
 -- the number is too long
 pub returns-in_default : goal.returns-in_default
 returns-in_default c =
-    let a = (at c.before.before.before).before.before.args in
-    rw (more_is c.before.before.before)
-    (too_long a.base (at c.before.before.before).before.before.requires.0 (drop ((at c.before.before.before).loop.p + 1) a.text.now) (more c.before.before.before) 0 (more_bare c.before.before.before)
-    (over_is (more c.before.before.before) (sym c.in_default.is ∙ c.appended.ensures)))
+    let e = (goal.at.returns-in_default c).Else-d-eq0 in
+    let a = c.args in
+    rw (more_is e)
+    (too_long a.base c.requires.0 (drop (c.loop-p.p + 1) a.text.now) (more e) 0 (more_bare e)
+    (over_is (more e) (sym c.in_default.is ∙ c.appended.ensures)))
 
 pub loop-p-preserved : goal.loop-p-preserved
 loop-p-preserved c =
-    let is = fits_is _ (more c.before.before.before.before) (sym c.in-Fits.is ∙ c.appended.ensures) in
-    (omega arith, omega arith, rw is (inr (more_bare c.before.before.before.before)), rw is (more_is c.before.before.before.before))
+    let e = (goal.at.loop-p-preserved c).Else-d-eq0 in
+    let is = fits_is _ (more e) (sym c.in-Fits.is ∙ c.appended.ensures) in
+    (omega arith, omega arith, rw is (inr (more_bare e)), rw is (more_is e))
 
 pub returns : goal.returns
 returns c =

@@ -1,16 +1,9 @@
 -- `quantity::figures::read_figures` meets its contract. The loop's invariant: the digits passed are m with zeros after it, and m does not end in a zero.
-use Prim.Native.Nat.{ℕ, ◌+◌, ◌-◌, ◌*◌, ◌%◌, ◌^◌, ◌≤◌}
-use mathlib.Core.Path.{◌≡◌, refl, sym, ap, ◌∙◌}
-use mathlib.Core.Logic.{◌≢◌, inl, inr}
-use native.Mathlib.Omega.{arith}
-use native.Mathlib.Nat.{zero-mul}
-use borrow.Author.Rules.{rules}
-use lib.ListN.{length, drop, get_or}
-use Rattle.digits.specs.Digit.{digit_val}
+use Prim.Native.Nat.{◌-◌, ◌*◌, ◌^◌, ◌≤◌}
+use mathlib.Core.Path.{◌≡◌}
+use lib.ListN.{length, drop}
 use Rattle.quantity.specs.Text.{digits_from, digits_of}
 use Rattle.quantity.specs.Figures.{Bare}
-use Rattle.quantity.proofs.Capped.{fits_is, over_is, bare_some}
-use Rattle.quantity.proofs.Texts.{digits_end, digits_other, digit_zero, digit_some, too_long}
 use Rattle.quantity.proofs.figures.read_figures.Given as goal
 
 abbrev pub invariant-loop-p : goal.invariant-loop-p

@@ -1,9 +1,6 @@
-use Prim.Native.Nat.{◌+◌, ◌-◌, ◌≤◌}
-use mathlib.Core.Path.{◌≡◌, sym, ◌∙◌}
+use mathlib.Core.Path.{sym, ◌∙◌}
 use native.Mathlib.Nat.{zero-add}
 use native.Mathlib.Omega.{arith}
-use lib.ListN.{length, drop}
-use Rattle.quantity.specs.Text.{digit_count}
 use Rattle.quantity.proofs.Texts.{count_end, count_digit, count_other}
 use Rattle.quantity.proofs.parts.count_digits.Goals as goal
 

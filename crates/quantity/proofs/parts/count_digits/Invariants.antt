@@ -1,11 +1,8 @@
 -- `quantity::parts::count_digits` meets its contract. The loop's invariant: the digits passed and those from here on make the whole.
 use Prim.Native.Nat.{◌+◌, ◌-◌, ◌≤◌}
-use mathlib.Core.Path.{◌≡◌, sym, ◌∙◌}
-use native.Mathlib.Nat.{zero-add}
-use native.Mathlib.Omega.{arith}
+use mathlib.Core.Path.{◌≡◌}
 use lib.ListN.{length, drop}
 use Rattle.quantity.specs.Text.{digit_count}
-use Rattle.quantity.proofs.Texts.{count_end, count_digit, count_other}
 use Rattle.quantity.proofs.parts.count_digits.Given as goal
 
 abbrev pub invariant-loop-p : goal.invariant-loop-p

@@ -1,9 +1,5 @@
-use Prim.Native.Nat.{◌+◌, ◌-◌}
-use mathlib.Core.Path.{◌≡◌, sym, ◌∙◌}
+use mathlib.Core.Path.{sym, ◌∙◌}
 use native.Mathlib.Nat.{zero-add}
-use native.Mathlib.Omega.{arith}
-use lib.ListN.{length, drop}
-use Rattle.quantity.specs.Text.{first_at}
 use Rattle.quantity.proofs.Texts.{place_end, place_here, place_on}
 use Rattle.quantity.proofs.parts.find.Goals as goal
 

@@ -1,11 +1,8 @@
 -- `quantity::parts::find` meets its contract. The loop's invariant: the bytes passed and what is before the first c from here make the whole.
 use Prim.Native.Nat.{◌+◌, ◌-◌}
-use mathlib.Core.Path.{◌≡◌, sym, ◌∙◌}
-use native.Mathlib.Nat.{zero-add}
-use native.Mathlib.Omega.{arith}
+use mathlib.Core.Path.{◌≡◌}
 use lib.ListN.{length, drop}
 use Rattle.quantity.specs.Text.{first_at}
-use Rattle.quantity.proofs.Texts.{place_end, place_here, place_on}
 use Rattle.quantity.proofs.parts.find.Given as goal
 
 abbrev pub invariant-loop-p : goal.invariant-loop-p

@@ -1,4 +1,4 @@
-use Prim.Native.Nat.{◌*◌, ◌^◌, ◌<◌}
+use Prim.Native.Nat.{◌*◌, ◌^◌}
 use mathlib.Core.Path.{◌≡◌, refl, sym, ap, ◌∙◌}
 use native.Mathlib.Omega.{arith}
 use native.Mathlib.Nat.{zero-mul, le_trans}
@@ -14,7 +14,7 @@ loop-left-init c = (omega arith, refl)
 pub returns-then-most-x : goal.returns-then-most-x
 returns-then-most-x c =
     let a = c.args in
-    sym (over _ (rw (← c.loop-left.invariant.1, one_less a.base c.requires.0 c.loop-left.x c.loop-left.false c.loop-left-test.true)
+    sym (over _ (rw (← c.loop-left.invariant.1, one_less a.base c.requires.0 c.loop-left.x c.loop-left.left c.loop-left-test.true)
     (le_trans (times_over a.base c.requires.0 a.most c.requires.1 c.loop-left.x c.if-most-x.true) (least a.base c.requires.0 (c.loop-left.x * a.base) _))))
 
 pub overflow_mul-x : goal.overflow_mul-x
@@ -26,12 +26,12 @@ pub loop-left-preserved : goal.loop-left-preserved
 loop-left-preserved c =
     let a = c.args in (
       times_fits a.base c.requires.0 a.most c.requires.1 c.loop-left.x c.if-most-x.false,
-      sym (one_less a.base c.requires.0 c.loop-left.x c.loop-left.false c.loop-left-test.true) ∙ c.loop-left.invariant.1,
+      sym (one_less a.base c.requires.0 c.loop-left.x c.loop-left.left c.loop-left-test.true) ∙ c.loop-left.invariant.1,
     )
 
 pub returns : goal.returns
 returns c =
     let a = c.args in
-    let z : c.loop-left.false ≡ 0 = omega arith in
+    let z : c.loop-left.left ≡ 0 = omega arith in
     let e : c.loop-left.x ≡ a.m * a.base ^ a.n = sym (ap (λ i. c.loop-left.x * a.base ^ i) z ∙ no_more a.base c.requires.0 c.loop-left.x) ∙ c.loop-left.invariant.1 in
     rw (← e) (sym (fits _ c.loop-left.invariant.0))

@@ -1,9 +1,6 @@
 -- `quantity::whole::scaled` meets its contract. The loop's invariant: what is left to multiply makes the whole product.
 use Prim.Native.Nat.{◌*◌, ◌^◌, ◌<◌}
-use mathlib.Core.Path.{◌≡◌, refl, sym, ap, ◌∙◌}
-use native.Mathlib.Omega.{arith}
-use native.Mathlib.Nat.{zero-mul, le_trans}
-use Rattle.quantity.proofs.Capped.{fits, over, times_fits, times_over, one_less, no_more, least}
+use mathlib.Core.Path.{◌≡◌}
 use Rattle.quantity.proofs.whole.scaled.Given as goal
 
 abbrev pub invariant-loop-left : goal.invariant-loop-left

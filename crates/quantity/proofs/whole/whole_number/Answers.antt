@@ -2,8 +2,6 @@
 use Prim.Native.Nat.{◌≤◌}
 use mathlib.Core.Path.{refl, sym, subst, ap, ◌∙◌}
 use native.Mathlib.Nat.{le_trans}
-use native.Mathlib.Omega.{arith}
-use borrow.Author.Rules.{rules}
 use Rattle.quantity.specs.Text.{digits_of}
 use Rattle.quantity.specs.Whole.{capped}
 use Rattle.quantity.specs.Figures.{Stripped}
