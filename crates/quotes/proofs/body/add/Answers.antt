@@ -1,7 +1,5 @@
 -- `quotes::body::add` meets its contract: by whether a character was read before.
-use mathlib.Core.Logic.{⊎_elim}
 use Rattle.quotes.specs.Steps.{added}
-use borrow.Author.Rules.{rules}
 use borrow.Author.Tests.{eq-eqb, ne_eqb}
 use Rattle.quotes.proofs.body.add.Goals as goal
 use Rattle.quotes.proofs.body.add.Goals.{else-q-eq0, then-q-eq0}

@@ -1,5 +1,4 @@
 -- `quotes::body::char_piece` meets its contract: by the callee's test.
-use borrow.Author.Rules.{rules}
 use Rattle.quotes.proofs.body.char_piece.Goals as goal
 
 pub returns-then-is_stray : goal.returns-then-is_stray

@@ -1,5 +1,4 @@
 -- `quotes::body::escape_piece` meets its contract: by the case of the flag.
-use borrow.Author.Rules.{rules}
 use Rattle.quotes.proofs.body.escape_piece.Goals as goal
 
 pub returns-then-byte : goal.returns-then-byte

@@ -1,10 +1,5 @@
-use Prim.Native.Nat.{◌+◌, ◌-◌}
-use mathlib.Core.Path.{◌≡◌, refl, sym, ◌∙◌}
+use mathlib.Core.Path.{sym, ◌∙◌}
 use native.Mathlib.Omega.{arith}
-use borrow.Author.Rules.{rules}
-use borrow.Author.Tests.{not-true, not-false}
-use lib.ListN.{length, drop}
-use Rattle.quotes.specs.Plain.{plain_len}
 use Rattle.quotes.proofs.PlainRuns.{plain_over, plain_next, plain_stop}
 use Rattle.quotes.proofs.body.near_end.Goals as goal
 

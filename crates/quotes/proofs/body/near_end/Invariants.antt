@@ -1,12 +1,8 @@
 -- `quotes::body::near_end` meets its contract. The loop's invariant: the run ends where it would from here.
 use Prim.Native.Nat.{◌+◌, ◌-◌}
-use mathlib.Core.Path.{◌≡◌, refl, sym, ◌∙◌}
-use native.Mathlib.Omega.{arith}
-use borrow.Author.Rules.{rules}
-use borrow.Author.Tests.{not-true, not-false}
+use mathlib.Core.Path.{◌≡◌}
 use lib.ListN.{length, drop}
 use Rattle.quotes.specs.Plain.{plain_len}
-use Rattle.quotes.proofs.PlainRuns.{plain_over, plain_next, plain_stop}
 use Rattle.quotes.proofs.body.near_end.Given as goal
 
 abbrev pub invariant-loop-p : goal.invariant-loop-p

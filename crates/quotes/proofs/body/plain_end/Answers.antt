@@ -1,9 +1,8 @@
-use Prim.Native.Nat.{◌+◌, ◌-◌, ◌≤◌}
-use mathlib.Core.Path.{◌≡◌, refl, sym, ◌∙◌}
+use Prim.Native.Nat.{◌+◌, ◌≤◌}
+use mathlib.Core.Path.{sym, ◌∙◌}
 use native.Mathlib.Omega.{arith}
 use borrow.Author.Tests.{leb-true}
-use lib.ListN.{length, drop}
-use Rattle.quotes.specs.Plain.{plain_len}
+use lib.ListN.{length}
 use Rattle.quotes.proofs.Stops.{run_skip}
 use Rattle.quotes.proofs.body.plain_end.Goals as goal
 use Rattle.quotes.proofs.body.plain_end.Goals.{In-loop-n}

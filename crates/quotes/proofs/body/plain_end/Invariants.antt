@@ -1,11 +1,8 @@
 -- `quotes::body::plain_end` meets its contract. The loop's invariant: the run ends where it would from here.
-use Prim.Native.Nat.{◌+◌, ◌-◌, ◌≤◌}
-use mathlib.Core.Path.{◌≡◌, refl, sym, ◌∙◌}
-use native.Mathlib.Omega.{arith}
-use borrow.Author.Tests.{leb-true}
+use Prim.Native.Nat.{◌+◌, ◌-◌}
+use mathlib.Core.Path.{◌≡◌}
 use lib.ListN.{length, drop}
 use Rattle.quotes.specs.Plain.{plain_len}
-use Rattle.quotes.proofs.Stops.{run_skip}
 use Rattle.quotes.proofs.body.plain_end.Given as goal
 
 abbrev pub invariant-loop-n : goal.invariant-loop-n

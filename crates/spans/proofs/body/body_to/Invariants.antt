@@ -1,14 +1,10 @@
 -- `spans::body::body_to` meets its contract. The loop's invariant: what was read and what is left make the whole.
 use Prim.Native.Nat.{◌-◌}
-use mathlib.Core.Path.{refl, sym, ◌∙◌}
-use native.Mathlib.Omega.{arith}
 use lib.ListN.{length, drop}
 use Rattle.utf8.specs.Chars.{chars}
 use Rattle.spans.specs.Span.{to_stop}
 use Rattle.spans.specs.Body.{stop_body}
-use Rattle.spans.specs.Plain.{PlainRun}
-use Rattle.spans.proofs.Bodies.{PartRead, part_start, part_end, part_last, grown_end, part_next, stop_last, stop_more}
-use Rattle.spans.proofs.Blocks.{block_true, skipped, part_plain}
+use Rattle.spans.proofs.Bodies.{PartRead}
 use Rattle.spans.proofs.body.body_to.Given as goal
 
 abbrev pub invariant-loop-body : goal.invariant-loop-body

@@ -8,7 +8,6 @@ use Rattle.utf8.proofs.First.{there_fits}
 use Rattle.utf8.specs.Count.{one}
 use Rattle.utf8.proofs.Count.{le_one}
 use Rattle.spans.proofs.Bodies.{grown_ascii, grown_wide}
-use borrow.Author.Rules.{rules}
 use Rattle.spans.proofs.body.grow.Goals as goal
 
 pub overflow_add-lfs : goal.overflow_add-lfs

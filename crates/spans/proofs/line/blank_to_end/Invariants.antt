@@ -1,13 +1,9 @@
 -- `spans::line::blank_to_end` meets its contract. The loop's invariant: what is left of the text gives the answer.
 use Prim.Native.Nat.{◌-◌}
-use mathlib.Core.Path.{◌≡◌, refl, sym, ◌∙◌}
-use native.Mathlib.Omega.{arith}
-use borrow.Author.Rules.{rules}
-use borrow.Author.Tests.{not-true, not-false}
+use mathlib.Core.Path.{◌≡◌}
 use lib.ListN.{length, drop}
 use Rattle.utf8.specs.Chars.{chars}
 use Rattle.spans.specs.Line.{blank_to_end}
-use Rattle.spans.proofs.Lines.{blank_end, blank_lf, blank_other, blank_next}
 use Rattle.spans.proofs.line.blank_to_end.Given as goal
 
 abbrev pub invariant-loop-p : goal.invariant-loop-p

@@ -1,13 +1,9 @@
-use Prim.Native.Nat.{◌-◌, ◌<◌}
-use mathlib.Core.Path.{◌≡◌, refl, sym, ◌∙◌}
-use mathlib.Core.Bool.{false}
+use Prim.Native.Nat.{◌<◌}
+use mathlib.Core.Path.{refl, sym, ◌∙◌}
 use native.Mathlib.Omega.{arith}
-use borrow.Author.Rules.{rules}
-use lib.ListN.{length, drop}
-use Rattle.utf8.specs.Chars.{chars, char_at}
+use Rattle.utf8.specs.Chars.{char_at}
 use Rattle.utf8.proofs.First.{there_least}
 use Rattle.reader.specs.Read.{read_place}
-use Rattle.spans.specs.Steps.{stop_from}
 use Rattle.spans.proofs.Lines.{stop_end, stop_lf, stop_closed, stop_next}
 use Rattle.spans.proofs.line.comment_end.Goals as goal
 use Rattle.spans.proofs.line.comment_end.Goals.{After-next_place-p}

@@ -1,15 +1,10 @@
 -- `spans::line::comment_end` meets its contract. The loop's invariant: what is left of the text gives the answer.
-use Prim.Native.Nat.{◌-◌, ◌<◌}
-use mathlib.Core.Path.{◌≡◌, refl, sym, ◌∙◌}
+use Prim.Native.Nat.{◌-◌}
+use mathlib.Core.Path.{◌≡◌}
 use mathlib.Core.Bool.{false}
-use native.Mathlib.Omega.{arith}
-use borrow.Author.Rules.{rules}
 use lib.ListN.{length, drop}
-use Rattle.utf8.specs.Chars.{chars, char_at}
-use Rattle.utf8.proofs.First.{there_least}
-use Rattle.reader.specs.Read.{read_place}
+use Rattle.utf8.specs.Chars.{chars}
 use Rattle.spans.specs.Steps.{stop_from}
-use Rattle.spans.proofs.Lines.{stop_end, stop_lf, stop_closed, stop_next}
 use Rattle.spans.proofs.line.comment_end.Given as goal
 
 abbrev pub invariant-loop-p : goal.invariant-loop-p

@@ -1,7 +1,6 @@
 -- `spans::line::ends_line` meets its contract: by where and how the search stopped.
 use mathlib.Core.Path.{sym, ap, ◌∙◌}
 use Rattle.spans.proofs.Lines.{line_ends, ends_line_of}
-use borrow.Author.Rules.{rules}
 use Rattle.spans.proofs.line.ends_line.Goals as goal
 
 pub returns-in-Closed : goal.returns-in-Closed

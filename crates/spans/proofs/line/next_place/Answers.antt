@@ -1,5 +1,4 @@
 -- `spans::line::next_place` meets its contract: a byte of ASCII is a character.
-use borrow.Author.Rules.{rules}
 use Rattle.utf8.proofs.First.{char_at_ascii}
 use Rattle.reader.specs.Read.{read_place}
 use Rattle.spans.proofs.line.next_place.Goals as goal

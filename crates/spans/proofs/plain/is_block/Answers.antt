@@ -1,9 +1,6 @@
-use Prim.Native.Nat.{◌+◌, ◌-◌, ◌≤◌}
 use mathlib.Core.Path.{◌≡◌, refl, sym}
 use native.Mathlib.Omega.{arith}
 use borrow.Author.Rules.{rules}
-use lib.ListN.{length, take, drop}
-use Rattle.spans.specs.Plain.{any_special}
 use Rattle.spans.proofs.Blocks.{any_more, block_short, block_there}
 use Rattle.spans.proofs.plain.is_block.Goals as goal
 

@@ -1,11 +1,8 @@
 -- `spans::plain::is_block` meets its contract. The loop's invariant: `any` says whether one of the bytes so far is special.
 use Prim.Native.Nat.{◌+◌, ◌-◌, ◌≤◌}
-use mathlib.Core.Path.{◌≡◌, refl, sym}
-use native.Mathlib.Omega.{arith}
-use borrow.Author.Rules.{rules}
+use mathlib.Core.Path.{◌≡◌}
 use lib.ListN.{length, take, drop}
 use Rattle.spans.specs.Plain.{any_special}
-use Rattle.spans.proofs.Blocks.{any_more, block_short, block_there}
 use Rattle.spans.proofs.plain.is_block.Given as goal
 
 abbrev pub invariant-loop-k : goal.invariant-loop-k
