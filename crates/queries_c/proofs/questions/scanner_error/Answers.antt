@@ -1,6 +1,5 @@
 -- `questions::scanner_error` meets its contract: past the test of lengths the state in the numbers is asked.
 use mathlib.Core.Path.{◌≡◌, sym, ◌∙◌}
-use borrow.Author.Rules.{rules}
 use Rattle.refusal.proofs.Lengths.{long_enough}
 use Rattle.errors.specs.Answers.{got}
 use Rattle.errors.specs.Layout.{numbers}

@@ -2,7 +2,6 @@
 use mathlib.Core.Path.{◌≡◌, sym, ◌∙◌}
 use mathlib.Core.List.{[], ◌∷◌}
 use native.Mathlib.Omega.{arith}
-use borrow.Author.Rules.{rules}
 use Rattle.refusal.proofs.Lengths.{long_enough}
 use Rattle.position.specs.Answers.{answer_outcome}
 use Rattle.queries_c.specs.Asked.{answered_by}

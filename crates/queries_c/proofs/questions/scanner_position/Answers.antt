@@ -1,7 +1,6 @@
 -- `questions::scanner_position` meets its contract: past the test of lengths the state in the numbers is asked.
 use mathlib.Core.Path.{◌≡◌, sym, ◌∙◌}
 use mathlib.Core.List.{[], ◌∷◌}
-use borrow.Author.Rules.{rules}
 use Rattle.refusal.proofs.Lengths.{long_enough}
 use Rattle.position.specs.declared.Position.{Position}
 use Rattle.position.specs.Answers.{located}
