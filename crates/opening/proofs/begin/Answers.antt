@@ -1,7 +1,6 @@
 -- `begin` meets its contract: each test of the code is one of the definition's; those of base and size are together its test of their sum.
 use mathlib.Core.Path.{sym}
 use native.Mathlib.Omega.{arith}
-use borrow.Author.Rules.{rules}
 use Rattle.opening.proofs.Opens.{begin_small, begin_high, begin_full, begin_ready}
 use Rattle.opening.proofs.begin.Goals as goal
 

@@ -1,6 +1,5 @@
 -- `open` meets its contract: the length and the check are the definition's tests, and the rest is `begin`.
 use mathlib.Core.Path.{sym, ap, ◌∙◌}
-use borrow.Author.Rules.{rules}
 use Rattle.validation.specs.Answers.{checking_of}
 use Rattle.opening.proofs.Opens.{open_long, open_bad, open_begun}
 use Rattle.opening.proofs.open.Goals as goal

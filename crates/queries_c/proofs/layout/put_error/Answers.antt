@@ -1,5 +1,4 @@
 -- `layout::put_error` meets its contract: three numbers are written, then the fourth.
-use borrow.Author.Rules.{rules}
 use Rattle.errors.specs.Layout.{numbers}
 use Rattle.queries_c.proofs.layout.put_error.Goals as goal
 

@@ -4,48 +4,44 @@ use mathlib.Core.Path.{◌≡◌, sym, ◌∙◌}
 use mathlib.Core.Bool.{false}
 use native.Mathlib.Omega.{arith}
 use lib.ListN.{length}
-use borrow.Author.Rules.{rules}
 use borrow.Author.Tests.{le-leb}
 use Rattle.refusal.specs.Short.{too_short}
 use Rattle.refusal.proofs.Lengths.{long_enough}
 use Rattle.state.specs.Layout.{state_width}
 use Rattle.queries_c.specs.Open.{open_numbers}
 use Rattle.queries_c.proofs.open.scanner_open.Goals as goal
-use Rattle.queries_c.proofs.open.scanner_open.Goals.{After-table-1, Else-too_short}
+use Rattle.queries_c.proofs.open.scanner_open.Goals.{Else-too_short}
 
 pub returns-then-too_short : goal.returns-then-too_short
 unfolding open_numbers
 returns-then-too_short c = rw (sym c.too_short.ensures ∙ c.if-too_short.true)
 
-abbrev tested : After-table-1 → Else-too_short
-tested k = k.before.before.before.before
-
 -- past the test of lengths the slices are long enough
 long : (e : Else-too_short)
-    → let a = e.before.before.before.before.before.before.args in (state_width ≤ length a.state.now) × (1 ≤ length a.answer.now)
-long e = long_enough _ _ _ _ e.before.too_short.ensures e.if1.false
+    → let a = e.args in (state_width ≤ length a.state.now) × (1 ≤ length a.answer.now)
+long e = long_enough _ _ _ _ e.too_short.ensures e.if-too_short.false
 
 not_short : (e : Else-too_short)
-    → let a = e.before.before.before.before.before.before.args in too_short (length a.state.now) state_width (length a.answer.now) 1 ≡ false
-not_short e = sym e.before.too_short.ensures ∙ e.if1.false
+    → let a = e.args in too_short (length a.state.now) state_width (length a.answer.now) 1 ≡ false
+not_short e = sym e.too_short.ensures ∙ e.if-too_short.false
 
 pub bounds-answer-0 : goal.bounds-answer-0
-bounds-answer-0 c = omega (arith, (long (tested c.before.before.before.before.before.before.before)).1)
+bounds-answer-0 c = omega (arith, (long (goal.at.bounds-answer-0 c).Else-too_short).1)
 
 pub bounds-answer-0-in-NotUtf8 : goal.bounds-answer-0-in-NotUtf8
-bounds-answer-0-in-NotUtf8 c = omega (arith, (long (tested c.before.before.before)).1)
+bounds-answer-0-in-NotUtf8 c = omega (arith, (long (goal.at.bounds-answer-0-in-NotUtf8 c).Else-too_short).1)
 
 pub returns-in-Ready : goal.returns-in-Ready
 unfolding open_numbers
 returns-in-Ready c =
-    rw (c.put_state.ensures, le-leb _ _ (long (tested c.before.before.before.before.before.before.before)).0, not_short (tested c.before.before.before.before.before.before.before), ← c.open-opened.ensures, c.in-Ready.is)
+    rw (c.put_state.ensures, le-leb _ _ (long (goal.at.returns-in-Ready c).Else-too_short).0, not_short (goal.at.returns-in-Ready c).Else-too_short, ← c.open-opened.ensures, c.in-Ready.is)
 
 pub returns-in-NotUtf8 : goal.returns-in-NotUtf8
 unfolding open_numbers
 returns-in-NotUtf8 c =
-    rw (not_short (tested c.before.before.before), ← c.open-opened.ensures, c.in-NotUtf8.is)
+    rw (not_short (goal.at.returns-in-NotUtf8 c).Else-too_short, ← c.open-opened.ensures, c.in-NotUtf8.is)
 
 pub returns-in-Refused : goal.returns-in-Refused
 unfolding open_numbers
 returns-in-Refused c =
-    rw (not_short (tested c.before.before.before), ← c.open-opened.ensures, c.in-Refused.is)
+    rw (not_short (goal.at.returns-in-Refused c).Else-too_short, ← c.open-opened.ensures, c.in-Refused.is)

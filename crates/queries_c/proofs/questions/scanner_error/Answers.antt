@@ -1,6 +1,5 @@
 -- `questions::scanner_error` meets its contract: past the test of lengths the state in the numbers is asked.
 use mathlib.Core.Path.{◌≡◌, sym, ◌∙◌}
-use borrow.Author.Rules.{rules}
 use Rattle.refusal.proofs.Lengths.{long_enough}
 use Rattle.errors.specs.Answers.{got}
 use Rattle.errors.specs.Layout.{numbers}
@@ -23,21 +22,20 @@ put_error-requires-in-Nothing c =
 
 -- past the test of lengths, what the state in the numbers answers
 answered : (q : After-error-got)
-    → let a = q.before.before.before.before.before.before.before.args in
-    error_numbers a.state.now a.list.now a.index a.answer.now ≡ answered_by error_or (got q.error.result) a.answer.now
+    → let a = q.args in
+    error_numbers a.state.now a.list.now a.index a.answer.now ≡ answered_by error_or (got q.error-got.result) a.answer.now
 unfolding error_numbers
 answered q =
-    let e = q.before.before in
-    rw (sym e.before.too_short.ensures ∙ e.if1.false, ← q.before.state-in.ensures, ← q.error.ensures)
+    rw (sym q.too_short.ensures ∙ q.if-too_short.false, ← q.state_in.ensures, ← q.error-got.ensures)
 
 pub returns-in-Found : goal.returns-in-Found
 returns-in-Found c =
-    rw (c.put_error.ensures, answered c.before.before.before.before.before.before.before, c.in-Found.is)
+    rw (c.put_error.ensures, answered (goal.at.returns-in-Found c).After-error-got, c.in-Found.is)
 
 pub returns-in-Nothing : goal.returns-in-Nothing
 unfolding numbers
 returns-in-Nothing c =
-    rw (c.put_error-in-Nothing.ensures, answered c.before.before.before.before.before.before, c.in-Nothing.is)
+    rw (c.put_error-in-Nothing.ensures, answered (goal.at.returns-in-Nothing c).After-error-got, c.in-Nothing.is)
 
 pub returns-in-Refused : goal.returns-in-Refused
-returns-in-Refused c = rw (answered c.before.before.before, c.in-Refused.is)
+returns-in-Refused c = rw (answered (goal.at.returns-in-Refused c).After-error-got, c.in-Refused.is)

@@ -2,7 +2,6 @@
 use mathlib.Core.Path.{◌≡◌, sym, ◌∙◌}
 use mathlib.Core.List.{[], ◌∷◌}
 use native.Mathlib.Omega.{arith}
-use borrow.Author.Rules.{rules}
 use Rattle.refusal.proofs.Lengths.{long_enough}
 use Rattle.position.specs.Answers.{answer_outcome}
 use Rattle.queries_c.specs.Asked.{answered_by}
@@ -20,15 +19,14 @@ bounds-answer-0 c =
 
 -- past the test of lengths, what the state in the numbers answers
 answered : (q : After-line_start-started)
-    → let a = q.before.before.before.before.before.before.before.args in
-    line_start_numbers a.state.now a.table.now a.line a.answer.now ≡ answered_by (λ start. start ∷ []) (answer_outcome q.line-start.result) a.answer.now
+    → let a = q.args in
+    line_start_numbers a.state.now a.table.now a.line a.answer.now ≡ answered_by (λ start. start ∷ []) (answer_outcome q.line_start-started.result) a.answer.now
 unfolding line_start_numbers
 answered q =
-    let e = q.before.before in
-    rw (sym e.before.too_short.ensures ∙ e.if1.false, ← q.before.state-in.ensures, ← q.line-start.ensures)
+    rw (sym q.too_short.ensures ∙ q.if-too_short.false, ← q.state_in.ensures, ← q.line_start-started.ensures)
 
 pub returns-in-Gave : goal.returns-in-Gave
-returns-in-Gave c = rw (answered c.before.before.before, c.in-Gave.is)
+returns-in-Gave c = rw (answered (goal.at.returns-in-Gave c).After-line_start-started, c.in-Gave.is)
 
 pub returns-in-Refused : goal.returns-in-Refused
-returns-in-Refused c = rw (answered c.before.before.before, c.in-Refused.is)
+returns-in-Refused c = rw (answered (goal.at.returns-in-Refused c).After-line_start-started, c.in-Refused.is)

@@ -1,7 +1,6 @@
 -- `questions::scanner_position` meets its contract: past the test of lengths the state in the numbers is asked.
 use mathlib.Core.Path.{◌≡◌, sym, ◌∙◌}
 use mathlib.Core.List.{[], ◌∷◌}
-use borrow.Author.Rules.{rules}
 use Rattle.refusal.proofs.Lengths.{long_enough}
 use Rattle.position.specs.declared.Position.{Position}
 use Rattle.position.specs.Answers.{located}
@@ -20,16 +19,15 @@ put_three-requires c =
 
 -- past the test of lengths, what the state in the numbers answers
 answered : (q : After-position-located)
-    → let a = q.before.before.before.before.before.before.before.args in
-    position_numbers a.state.now a.table.now a.p a.answer.now ≡ answered_by (λ (q : Position). q.offset ∷ q.line ∷ q.column ∷ []) (located q.position.result) a.answer.now
+    → let a = q.args in
+    position_numbers a.state.now a.table.now a.p a.answer.now ≡ answered_by (λ (q : Position). q.offset ∷ q.line ∷ q.column ∷ []) (located q.position-located.result) a.answer.now
 unfolding position_numbers
 answered q =
-    let e = q.before.before in
-    rw (sym e.before.too_short.ensures ∙ e.if1.false, ← q.before.state-in.ensures, ← q.position.ensures)
+    rw (sym q.too_short.ensures ∙ q.if-too_short.false, ← q.state_in.ensures, ← q.position-located.ensures)
 
 pub returns-in-At : goal.returns-in-At
 returns-in-At c =
-    rw (c.put_three.ensures, answered c.before.before.before.before.before.before.before, c.in-At.is)
+    rw (c.put_three.ensures, answered (goal.at.returns-in-At c).After-position-located, c.in-At.is)
 
 pub returns-in-Refused : goal.returns-in-Refused
-returns-in-Refused c = rw (answered c.before.before.before, c.in-Refused.is)
+returns-in-Refused c = rw (answered (goal.at.returns-in-Refused c).After-position-located, c.in-Refused.is)

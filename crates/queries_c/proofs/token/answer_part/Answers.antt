@@ -1,7 +1,6 @@
 -- `token::answer_part` meets its contract: past the test of lengths the part in the numbers is given where it lies in its buffer.
 use mathlib.Core.Path.{sym, ◌∙◌}
 use native.Mathlib.Omega.{arith}
-use borrow.Author.Rules.{rules}
 use borrow.Author.Tests.{eq-eqb, ne_eqb}
 use Rattle.refusal.proofs.Lengths.{long_enough}
 use Rattle.queries_c.proofs.token.answer_part.Goals as goal

@@ -1,5 +1,4 @@
 -- `token::scanner_text` meets its contract: the part of the text is answered.
-use borrow.Author.Rules.{rules}
 use Rattle.queries_c.specs.Parts.{text_numbers}
 use Rattle.queries_c.proofs.token.scanner_text.Goals as goal
 

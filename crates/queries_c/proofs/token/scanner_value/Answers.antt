@@ -1,5 +1,4 @@
 -- `token::scanner_value` meets its contract: the part of the value is answered.
-use borrow.Author.Rules.{rules}
 use Rattle.queries_c.specs.Parts.{value_numbers}
 use Rattle.queries_c.proofs.token.scanner_value.Goals as goal
 
