@@ -1,6 +1,5 @@
 -- `lexer::comments::general_comment` meets its contract: by whether the comment is closed.
 use native.Mathlib.Omega.{arith}
-use borrow.Author.Rules.{rules}
 use borrow.Author.Tests.{not-true, not-false}
 use Rattle.basics.proofs.Lists.{reach}
 use Rattle.errors.specs.Numbers.{OPEN_COMMENT}

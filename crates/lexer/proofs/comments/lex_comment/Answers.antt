@@ -5,7 +5,6 @@ use mathlib.Core.Bool.{◌&&◌, false, and-false}
 use mathlib.Core.Logic.{⊎_elim}
 use native.Mathlib.Omega.{arith}
 use lib.ListN.{get_or, drop}
-use borrow.Author.Rules.{rules}
 use Rattle.basics.proofs.Lists.{reach}
 use Rattle.utf8.specs.Chars.{chars}
 use Rattle.spans.specs.Line.{ends_line}

@@ -1,6 +1,5 @@
 -- `lexer::comments::lex_raw` meets its contract: by whether the string is closed.
 use native.Mathlib.Omega.{arith}
-use borrow.Author.Rules.{rules}
 use Rattle.basics.proofs.Lists.{reach}
 use Rattle.lexer.proofs.SpannedTokens.{raw_room, raw_two, raw_closed, raw_one, raw_open}
 use Rattle.lexer.proofs.comments.lex_raw.Goals as goal

@@ -1,7 +1,6 @@
 -- `lexer::comments::line_comment` meets its contract: by whether the line feed is read.
 use Prim.Native.Nat.{◌+◌, ◌^◌, ◌≤◌, ◌<◌}
 use native.Mathlib.Omega.{arith}
-use borrow.Author.Rules.{rules}
 use Rattle.basics.proofs.Lists.{reach}
 use Rattle.lexer.proofs.SpannedTokens.{line_room, line_bytes, line_closed, line_open}
 use Rattle.lexer.proofs.comments.line_comment.Goals as goal

@@ -1,5 +1,4 @@
 -- `lexer::comments::spanned` meets its contract: by what `made` gives.
-use borrow.Author.Rules.{rules}
 use Rattle.lexer.proofs.comments.spanned.Goals as goal
 
 pub returns : goal.returns

@@ -1,6 +1,5 @@
 -- `lexer::lex::is_two_points` meets its contract: by three bytes.
 use borrow.Author.Tests.{eq-eqb, ne_eqb}
-use borrow.Author.Rules.{rules}
 use Rattle.lexer.proofs.lex.is_two_points.Goals as goal
 
 pub returns-then-byte-ne46 : goal.returns-then-byte-ne46

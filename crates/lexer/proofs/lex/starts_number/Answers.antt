@@ -1,7 +1,6 @@
 -- `lexer::lex::starts_number` meets its contract: a digit, or a point before one.
 use mathlib.Core.Path.{sym, ◌∙◌}
 use borrow.Author.Tests.{eq-eqb, ne_eqb}
-use borrow.Author.Rules.{rules}
 use Rattle.lexer.proofs.lex.starts_number.Goals as goal
 
 pub returns-then-is_decimal : goal.returns-then-is_decimal

@@ -1,5 +1,4 @@
 -- `lexer::lexed::inserted_semicolon` meets its contract.
-use borrow.Author.Rules.{rules}
 use Rattle.lexer.proofs.lexed.inserted_semicolon.Goals as goal
 
 pub returns : goal.returns

@@ -1,5 +1,4 @@
 -- `lexer::lexed::shown` meets its contract.
-use borrow.Author.Rules.{rules}
 use Rattle.lexer.proofs.lexed.shown.Goals as goal
 
 pub returns : goal.returns

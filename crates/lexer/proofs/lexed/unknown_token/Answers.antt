@@ -1,5 +1,4 @@
 -- `lexer::lexed::unknown_token` meets its contract.
-use borrow.Author.Rules.{rules}
 use Rattle.lexer.proofs.lexed.unknown_token.Goals as goal
 
 pub returns : goal.returns

@@ -2,7 +2,6 @@
 use mathlib.Core.Path.{ap}
 use native.Mathlib.Omega.{arith}
 use Rattle.lexer.proofs.Numerals.{gained_most, number_end, numeral_said}
-use borrow.Author.Rules.{rules}
 use Rattle.lexer.proofs.number.lex_number.Goals as goal
 
 pub made-x-requires : goal.made-x-requires

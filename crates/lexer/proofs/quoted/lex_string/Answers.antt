@@ -3,7 +3,6 @@ use Prim.Native.Nat.{suc, ◌^◌, ◌≤◌, ◌<◌}
 use mathlib.Core.Path.{refl}
 use mathlib.Core.Logic.{inl}
 use native.Mathlib.Omega.{arith}
-use borrow.Author.Rules.{rules}
 use borrow.Author.Tests.{not-true, not-false}
 use Rattle.basics.proofs.Lists.{reach}
 use Rattle.lexer.proofs.QuotedTokens.{literal_room, string_open, string_closed}

@@ -1,5 +1,4 @@
 -- `lexer::quoted::literal` meets its contract: by what `made` gives.
-use borrow.Author.Rules.{rules}
 use Rattle.lexer.proofs.quoted.literal.Goals as goal
 
 pub returns : goal.returns

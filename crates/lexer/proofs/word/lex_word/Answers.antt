@@ -1,6 +1,5 @@
 -- `lexer::word::lex_word` meets its contract: an identifier or a keyword.
 use mathlib.Core.Path.{ap, ◌∙◌}
-use borrow.Author.Rules.{rules}
 use Rattle.lexer.specs.Placed.{said}
 use Rattle.lexer.proofs.Tokens.{identifier_said, keyword_said}
 use Rattle.lexer.proofs.word.lex_word.Goals as goal
