@@ -1,9 +1,8 @@
 -- Laws of the value of a string's body at a place.
 use Prim.Native.Nat.{ℕ, suc, ◌+◌, ◌≤◌, ◌<◌}
-use mathlib.Core.Path.{◌≡◌, refl, sym, ap, ◌∙◌}
+use mathlib.Core.Path.{◌≡◌, sym, ap, ◌∙◌}
 use mathlib.Core.Bool.{Bool, true}
-use mathlib.Core.List.{List, [], ◌∷◌, ◌++◌}
-use native.Mathlib.Omega.{arith}
+use mathlib.Core.List.{List, [], ◌++◌}
 use lib.Dec.{lit<}
 use lib.ListN.{length, get_or, drop}
 use Rattle.utf8.specs.declared.Char.{Char}

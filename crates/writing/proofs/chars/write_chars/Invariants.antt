@@ -1,15 +1,10 @@
 -- `writing::chars::write_chars` meets its contract. The loop's invariant: the text of what is left is to be written from the present place on.
-use Prim.Native.Nat.{ℕ, ◌+◌, ◌-◌}
-use mathlib.Core.Path.{◌≡◌, refl, ap, ◌∙◌}
-use mathlib.Core.List.{List, ◌++◌, append_assoc}
-use native.Mathlib.Omega.{arith}
-use borrow.Author.Rules.{rules}
+use Prim.Native.Nat.{ℕ}
+use mathlib.Core.Path.{◌≡◌}
+use mathlib.Core.List.{List, ◌++◌}
 use lib.ListN.{length}
 use lib.Seq.{sets}
-use Rattle.utf8.specs.Chars.{encode}
-use Rattle.utf8.proofs.First.{there_fits}
-use Rattle.writing.proofs.Areas.{left_as_with_rest}
-use Rattle.writing.proofs.Texts.{text_at, text_none, text_end, text_kept, text_dropped}
+use Rattle.writing.proofs.Texts.{text_at}
 use Rattle.writing.proofs.chars.write_chars.Given as goal
 
 abbrev pub invariant-loop-left : goal.invariant-loop-left

@@ -1,5 +1,4 @@
 -- `writing::chars::write_encoded` meets its contract.
-use borrow.Author.Rules.{rules}
 use Rattle.writing.proofs.Areas.{writes_end}
 use Rattle.writing.proofs.Texts.{text_encoded}
 use Rattle.writing.proofs.chars.write_encoded.Goals as goal

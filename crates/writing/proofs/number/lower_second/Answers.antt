@@ -1,5 +1,4 @@
 -- `writing::number::lower_second` meets its contract.
-use borrow.Author.Rules.{rules}
 use borrow.Author.Tests.{eq-eqb, ne_eqb}
 use Rattle.basics.proofs.Choice.{below_it, in_between, above_it}
 use Rattle.writing.proofs.number.lower_second.Goals as goal

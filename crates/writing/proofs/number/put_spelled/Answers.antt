@@ -1,7 +1,6 @@
 -- `writing::number::put_spelled` meets its contract, spelling by spelling.
 use mathlib.Core.Path.{◌∙◌}
 use mathlib.Core.List.{◌∷◌}
-use borrow.Author.Rules.{rules}
 use Rattle.writing.proofs.Areas.{writes_as}
 use Rattle.writing.proofs.Spellings.{byte_as_read, byte_prefix, byte_first, byte_after_o, byte_exponent}
 use Rattle.writing.proofs.number.put_spelled.Goals as goal

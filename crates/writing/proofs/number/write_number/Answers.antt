@@ -1,11 +1,8 @@
-use Prim.Native.Nat.{◌-◌}
-use mathlib.Core.Path.{◌≡◌, refl, ap, ◌∙◌}
+use mathlib.Core.Path.{refl, ap, ◌∙◌}
 use borrow.Author.Rules.{rules}
-use lib.ListN.{length, take, drop}
 use lib.Seq.{sets}
-use Rattle.numbers.specs.Spelling.{number_text}
 use Rattle.writing.proofs.Areas.{left_as, finished}
-use Rattle.writing.proofs.Spellings.{spelled_at, number_at, spelled_next, spelled_none, spelled_end}
+use Rattle.writing.proofs.Spellings.{number_at, spelled_next, spelled_none, spelled_end}
 use Rattle.writing.proofs.number.write_number.Goals as goal
 
 pub loop-k-init : goal.loop-k-init

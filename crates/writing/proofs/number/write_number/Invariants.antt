@@ -1,12 +1,10 @@
 -- `writing::number::write_number` meets its contract. The loop's invariant: the text of what is left is to be written from the present place on.
 use Prim.Native.Nat.{◌-◌}
-use mathlib.Core.Path.{◌≡◌, refl, ap, ◌∙◌}
-use borrow.Author.Rules.{rules}
+use mathlib.Core.Path.{◌≡◌}
 use lib.ListN.{length, take, drop}
 use lib.Seq.{sets}
 use Rattle.numbers.specs.Spelling.{number_text}
-use Rattle.writing.proofs.Areas.{left_as, finished}
-use Rattle.writing.proofs.Spellings.{spelled_at, number_at, spelled_next, spelled_none, spelled_end}
+use Rattle.writing.proofs.Spellings.{spelled_at}
 use Rattle.writing.proofs.number.write_number.Given as goal
 
 abbrev pub invariant-loop-k : goal.invariant-loop-k

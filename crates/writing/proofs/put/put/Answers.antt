@@ -1,5 +1,4 @@
 -- `writing::put::put` meets its contract.
-use borrow.Author.Rules.{rules}
 use Rattle.writing.proofs.Areas.{no_byte, one_byte}
 use Rattle.writing.proofs.put.put.Goals as goal
 

@@ -1,9 +1,5 @@
-use Prim.Native.Nat.{ℕ, ◌-◌}
-use mathlib.Core.Path.{◌≡◌, refl, ◌∙◌}
-use mathlib.Core.List.{List, ◌++◌}
+use mathlib.Core.Path.{refl, ◌∙◌}
 use borrow.Author.Rules.{rules}
-use lib.ListN.{length, drop}
-use lib.Seq.{sets}
 use Rattle.utf8.specs.Chars.{encode}
 use Rattle.writing.proofs.Areas.{next_byte, no_more}
 use Rattle.writing.proofs.put.put_code.Goals as goal

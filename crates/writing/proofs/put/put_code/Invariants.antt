@@ -1,12 +1,10 @@
 -- `writing::put::put_code` meets its contract. The loop's invariant: what is left of the bytes is to be written from the present place on.
 use Prim.Native.Nat.{ℕ, ◌-◌}
-use mathlib.Core.Path.{◌≡◌, refl, ◌∙◌}
+use mathlib.Core.Path.{◌≡◌}
 use mathlib.Core.List.{List, ◌++◌}
-use borrow.Author.Rules.{rules}
 use lib.ListN.{length, drop}
 use lib.Seq.{sets}
 use Rattle.utf8.specs.Chars.{encode}
-use Rattle.writing.proofs.Areas.{next_byte, no_more}
 use Rattle.writing.proofs.put.put_code.Given as goal
 
 abbrev pub invariant-loop-k : goal.invariant-loop-k

@@ -1,6 +1,5 @@
 -- `writing::value::put_given` meets its contract.
 use native.Mathlib.Omega.{arith}
-use borrow.Author.Rules.{rules}
 use Rattle.writing.proofs.value.put_given.Goals as goal
 
 pub overflow_cast-code : goal.overflow_cast-code

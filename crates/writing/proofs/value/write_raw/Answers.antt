@@ -1,5 +1,4 @@
 -- `writing::value::write_raw` meets its contract.
-use borrow.Author.Rules.{rules}
 use Rattle.writing.proofs.value.write_raw.Goals as goal
 
 pub returns : goal.returns
