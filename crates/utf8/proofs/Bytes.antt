@@ -1,11 +1,11 @@
 -- Laws of the tests on bytes: what the announced length leaves to be tested, and a sequence as facts on numbers.
 use Prim.Native.Nat.{ℕ, ◌+◌, ◌-◌, ◌*◌, ◌≤◌, ◌<◌}
-use mathlib.Core.Path.{◌≡◌, refl, ap₂}
+use mathlib.Core.Path.{◌≡◌, refl, sym, ap₂}
 use mathlib.Core.Bool.{Bool, cond}
 use native.Mathlib.Omega.{arith}
 use lib.Dec.{ltb, eqb, eqb→eq, lit≤}
 use lib.Count.{count_leading_zeros}
-use borrow.Author.Tests.{ltb-true, ltb-false, lt-ltb, le-ltb, le-leb, lt-leb, eqb-true, eqb-false}
+use borrow.Author.Tests.{ne_eqb, ltb-true, ltb-false, lt-ltb, le-ltb, le-leb, lt-leb, eqb-true, eqb-false}
 use Rattle.basics.specs.Between.{between}
 use Rattle.basics.proofs.Choice.{cond_ind, between_true}
 use Rattle.basics.proofs.Every.{every_below}
@@ -22,6 +22,26 @@ right b = eqb (by_ones (count_leading_zeros 8 (255 - b))) (announced b)
 pub announced_by_ones : (b : ℕ) → b < 256 → by_ones (count_leading_zeros 8 (255 - b)) ≡ announced b
 unfolding right count_leading_zeros announced
 announced_by_ones b h = eqb→eq _ _ (every_below right 256 tt b h)
+
+-- the length that each test of the count leaves
+module _ (b : ℕ) (h : b < 256) where
+  pub no_ones : count_leading_zeros 8 (255 - b) ≡ 0 → announced b ≡ 1
+  no_ones e = sym (rw e at (announced_by_ones b h))
+
+  pub one_one : count_leading_zeros 8 (255 - b) ≡ 1 → announced b ≡ 0
+  one_one e = sym (rw e at (announced_by_ones b h))
+
+  pub few_ones : (count_leading_zeros 8 (255 - b) ≡ 0 → ⊥) → (count_leading_zeros 8 (255 - b) ≡ 1 → ⊥) → count_leading_zeros 8 (255 - b) < 5
+      → announced b ≡ count_leading_zeros 8 (255 - b)
+  few_ones z o e = sym (simp (ne_eqb _ _ z, ne_eqb _ _ o, lt-ltb _ _ e) at (announced_by_ones b h))
+
+  pub many_ones : 5 ≤ count_leading_zeros 8 (255 - b) → announced b ≡ 0
+  many_ones l =
+      let z : count_leading_zeros 8 (255 - b) ≡ 0 → ⊥ = λ e. omega arith in
+      let o : count_leading_zeros 8 (255 - b) ≡ 1 → ⊥ = λ e. omega arith in
+      sym (simp (ne_eqb _ _ z, ne_eqb _ _ o, le-ltb _ _ l) at (announced_by_ones b h))
+
+pub ruleset lengths = (no_ones, one_one, few_ones, many_ones)
 
 -- ---- a length by a test
 pub picks : {t t' : Bool} {x x' : ℕ} → t ≡ t' → x ≡ x' → cond t x 0 ≡ cond t' x' 0

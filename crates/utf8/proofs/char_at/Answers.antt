@@ -3,7 +3,6 @@ use mathlib.Core.Path.{sym, ◌∙◌}
 use native.Mathlib.Omega.{arith}
 use borrow.Author.Tests.{le-ltb}
 use Rattle.utf8.proofs.First.{char_at_ascii, char_at_bytes}
-use borrow.Author.Rules.{rules}
 use Rattle.utf8.specs.Chars.{char_at}
 use Rattle.utf8.proofs.char_at.Goals as goal
 

@@ -1,6 +1,5 @@
 -- `utf8::code_of` meets its contract: the number of bytes picks the row, and no row wraps.
 use borrow.Author.Tests.{ne_eqb}
-use borrow.Author.Rules.{rules}
 use Rattle.utf8.proofs.sequence.code_of.Goals as goal
 
 pub returns-then-n-eq1 : goal.returns-then-n-eq1
