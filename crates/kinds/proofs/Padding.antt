@@ -61,3 +61,12 @@ filled_next s n h g =
 pub filled_whole : (s : List ℕ) (n : ℕ) → n ≡ length s → ◌≡◌ {A = Padded} (record { bytes = filled s n; len = n }) (padded s)
 filled_whole s n e =
     rw e (ap (λ l. record { bytes = l ++ replicate (11 - length s) 0; len = length s }) (take-length s))
+
+-- ---- a loop that has found a space
+pub ended_length : (k n : ℕ) → k < 256 → n ≤ length (name_of k) → get_or (name_of k) n 0x20 ≡ 0x20 → length (name_of k) ≡ n
+ended_length k n h l e = let m : length (name_of k) ≤ n = name_ends k h n e in omega arith
+
+pub ended_bytes : (s : List ℕ) (n : ℕ) → length s ≡ n → filled s n ≡ s ++ replicate (11 - n) 0
+ended_bytes s n e = rw (sym e) (ap (λ l. l ++ replicate (11 - length s) 0) (take-length s))
+
+pub ruleset ended = (ended_length, ended_bytes)

@@ -107,6 +107,7 @@ fn byte_of(kind: usize, i: usize) -> u8
 }
 
 // The name of a kind; of a number that is no kind, the empty one.
+#[tactic(auto, using(crate::proofs::Padding::ended))]
 pub fn name(kind: u8) -> Padded
     ensures { result ≡ padded (name_of kind) }
 {

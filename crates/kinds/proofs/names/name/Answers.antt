@@ -1,12 +1,12 @@
 use Prim.Native.Nat.{◌≤◌, ◌<◌}
-use mathlib.Core.Path.{◌≡◌, refl, sym, ap, ap₂, ◌∙◌}
+use mathlib.Core.Path.{◌≡◌, refl, ap, ap₂, ◌∙◌}
 use native.Mathlib.Omega.{arith}
 use borrow.Author.Rules.{rules}
 use lib.ListN.{length, set}
 use Rattle.kinds.specs.declared.names.Padded.{Padded}
 use Rattle.kinds.specs.Names.{padded}
 use Rattle.kinds.specs.Table.{name_of, table, specials, operators, keywords}
-use Rattle.kinds.proofs.Padding.{filled_next, filled_whole, name_short, name_ends, name_goes_on}
+use Rattle.kinds.proofs.Padding.{filled_next, filled_whole, name_short, name_goes_on}
 use Rattle.kinds.proofs.Table.{no_name}
 use Rattle.kinds.proofs.names.name.Goals as goal
 use Rattle.kinds.proofs.names.name.Goals.{At-loop-len}
@@ -29,11 +29,6 @@ whole : (c : At-loop-len)
 whole c h =
     let end : c.loop-len.len ≡ length (name_of c.args.kind) = omega arith in
     ap (λ b. record { bytes = b; len = c.loop-len.len }) c.loop-len.invariant.1 ∙ filled_whole _ _ end
-
-pub returns-then-byte-eq32 : goal.returns-then-byte-eq32
-returns-then-byte-eq32 c =
-    whole (goal.at.returns-then-byte-eq32 c).At-loop-len
-    (name_ends _ (search rules) c.loop-len.len (sym c.byte_of-byte.ensures ∙ c.if-byte-eq32.true))
 
 pub loop-len-preserved : goal.loop-len-preserved
 loop-len-preserved c =
