@@ -32,17 +32,14 @@ put_quantity-requires c = (long (goal.at.put_quantity-requires c).Else-too_short
 
 -- past the test of lengths, what the token in the numbers answers
 answered : (q : After-number-given)
-    → let a = (start q.before.before.before.before).args in
-    number_numbers a.src.now a.area.now a.token.now a.answer.now ≡ answered_by quantity_numbers (answer_outcome q.number.result) a.answer.now
+    → let a = q.args in
+    number_numbers a.src.now a.area.now a.token.now a.answer.now ≡ answered_by quantity_numbers (answer_outcome q.number-given.result) a.answer.now
 unfolding number_numbers
-answered q =
-    let k = q.before.before in
-    let e = k.before.before in
-    rw (sym e.before.too_short.ensures ∙ e.if1.false, ← q.before.text_in.ensures, q.number.ensures, k.kind-of.ensures, kind_asked)
+answered q = rw (sym q.too_short.ensures ∙ q.if-too_short.false, ← q.text_in.ensures, q.number-given.ensures, q.kind_of-kind.ensures, kind_asked)
 
 pub returns-in-Gave : goal.returns-in-Gave
 returns-in-Gave c =
-    rw (c.put_quantity.ensures, answered c.before.before.before.before.before.before.before, c.in-Gave.is)
+    rw (c.put_quantity.ensures, answered (goal.at.returns-in-Gave c).After-number-given, c.in-Gave.is)
 
 pub returns-in-Refused : goal.returns-in-Refused
-returns-in-Refused c = rw (answered c.before.before.before, c.in-Refused.is)
+returns-in-Refused c = rw (answered (goal.at.returns-in-Refused c).After-number-given, c.in-Refused.is)

@@ -3,7 +3,6 @@ use mathlib.Core.Path.{◌≡◌, sym, ap₂, ◌∙◌}
 use mathlib.Core.Bool.{true}
 use lib.ListN.{get_or}
 use borrow.Author.Rules.{rules}
-use borrow.Author.Tests.{not-true, not-false}
 use Rattle.numbers.specs.Number.{starts_number}
 use Rattle.quantity_query.specs.Given.{is_real, is_given}
 use Rattle.quantity_query.proofs.is_given.Goals as goal
@@ -11,11 +10,11 @@ use Rattle.quantity_query.proofs.is_given.Goals.{After-starts_number, Else-not-i
 
 pub returns-then-not-is_real : goal.returns-then-not-is_real
 unfolding is_given
-returns-then-not-is_real c = rw (sym c.is_real.ensures ∙ not-true _ c.if-not-is_real.true)
+returns-then-not-is_real c = rw (sym c.is_real.ensures ∙ c.if-not-is_real.true)
 
 -- the kind is one of the two
 real : (c : Else-not-is_real) → is_real c.args.kind ≡ true
-real c = sym c.is_real.ensures ∙ not-false _ c.if-not-is_real.false
+real c = sym c.is_real.ensures ∙ c.if-not-is_real.false
 
 starts_is : (c : After-starts_number)
     → let text = c.args.text.now in
@@ -24,15 +23,15 @@ starts_is c = c.starts_number.ensures ∙ ap₂ starts_number c.byte.ensures c.b
 
 pub returns-then-not-starts_number : goal.returns-then-not-starts_number
 unfolding is_given
-returns-then-not-starts_number c = rw (real (goal.at.returns-then-not-starts_number c).Else-not-is_real, sym (starts_is (goal.at.returns-then-not-starts_number c).After-starts_number) ∙ not-true _ c.if-not-starts_number.true)
+returns-then-not-starts_number c = rw (real (goal.at.returns-then-not-starts_number c).Else-not-is_real, sym (starts_is (goal.at.returns-then-not-starts_number c).After-starts_number) ∙ c.if-not-starts_number.true)
 
 pub returns-then-not-is_all : goal.returns-then-not-is_all
 unfolding is_given
 returns-then-not-is_all c =
     rw (
       real (goal.at.returns-then-not-is_all c).Else-not-is_real,
-      sym (starts_is (goal.at.returns-then-not-is_all c).After-starts_number) ∙ not-false _ c.if-not-starts_number.false,
-      sym c.is_all.ensures ∙ not-true _ c.if-not-is_all.true,
+      sym (starts_is (goal.at.returns-then-not-is_all c).After-starts_number) ∙ c.if-not-starts_number.false,
+      sym c.is_all.ensures ∙ c.if-not-is_all.true,
     )
 
 pub returns : goal.returns
@@ -40,7 +39,7 @@ unfolding is_given
 returns c =
     rw (
       real (goal.at.returns c).Else-not-is_real,
-      sym (starts_is (goal.at.returns c).After-starts_number) ∙ not-false _ c.if-not-starts_number.false,
-      sym c.is_all.ensures ∙ not-false _ c.if-not-is_all.false,
+      sym (starts_is (goal.at.returns c).After-starts_number) ∙ c.if-not-starts_number.false,
+      sym c.is_all.ensures ∙ c.if-not-is_all.false,
       ← c.most_bytes.ensures,
     )
