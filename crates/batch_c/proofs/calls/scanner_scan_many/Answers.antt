@@ -37,22 +37,22 @@ unfolding scan_many_numbers
 returns-then-too_short c = rw (sym c.too_short.ensures ∙ c.if-too_short.true)
 
 -- past the test of lengths the slices are long enough
-not_short : (e : Else-too_short) → let a = (start e).args in too_short (length a.state.now) state_width (length a.answer.now) 1 ≡ false
-not_short e = sym e.before.too_short.ensures ∙ e.if1.false
+not_short : (e : Else-too_short) → let a = e.args in too_short (length a.state.now) state_width (length a.answer.now) 1 ≡ false
+not_short e = sym e.too_short.ensures ∙ e.if-too_short.false
 
-long : (e : Else-too_short) → let a = (start e).args in (state_width ≤ length a.state.now) × (1 ≤ length a.answer.now)
-long e = long_enough _ _ _ _ e.before.too_short.ensures e.if1.false
+long : (e : Else-too_short) → let a = e.args in (state_width ≤ length a.state.now) × (1 ≤ length a.answer.now)
+long e = long_enough _ _ _ _ e.too_short.ensures e.if-too_short.false
 
 abbrev left : After-scan_many-ran → ManyLeft
 left c =
     record {
-      refusal = c.scan-many.result.refusal;
-      state = c.scan-many.result.state;
-      table = c.scan-many.new.1.1.0;
-      list = c.scan-many.new.1.1.1.0;
-      area = c.scan-many.new.1.1.1.1.0;
-      tokens = c.scan-many.new.1.1.1.1.1.0;
-      count = c.scan-many.result.count;
+      refusal = c.scan_many-ran.result.refusal;
+      state = c.scan_many-ran.result.state;
+      table = c.scan_many-ran.new.table;
+      list = c.scan_many-ran.new.list;
+      area = c.scan_many-ran.new.area;
+      tokens = c.scan_many-ran.new.tokens;
+      count = c.scan_many-ran.result.count;
     }
 
 left_is : (c : After-scan_many-ran)
@@ -62,13 +62,13 @@ left_is c = rw (← c.state_in.ensures) c.scan_many-ran.ensures
 pub returns-then-ran-ne0 : goal.returns-then-ran-ne0
 returns-then-ran-ne0 c =
     let a = c.args in
-    kept a.src.now a.state.now a.table.now a.list.now a.area.now a.tokens.now a.answer.now (not_short c.before.before.before.before.before.before.before.before.before.before.before.before.before.before.before.before.before) (left c.before.before.before.before.before.before.before.before.before.before) (left_is (goal.at.returns-then-ran-ne0 c).After-scan_many-ran) c.if-ran-ne0.true
+    kept a.src.now a.state.now a.table.now a.list.now a.area.now a.tokens.now a.answer.now (not_short (goal.at.returns-then-ran-ne0 c).Else-too_short) (left (goal.at.returns-then-ran-ne0 c).After-scan_many-ran) (left_is (goal.at.returns-then-ran-ne0 c).After-scan_many-ran) c.if-ran-ne0.true
 
 pub bounds-answer-0 : goal.bounds-answer-0
-bounds-answer-0 c = omega (arith, (long c.before.before.before.before.before.before.before.before.before.before.before.before.before.before.before.before.before).1)
+bounds-answer-0 c = omega (arith, (long (goal.at.bounds-answer-0 c).Else-too_short).1)
 
 pub returns : goal.returns
 returns c =
     let a = c.args in
-    rw (c.put_state.ensures, le-leb _ _ (long c.before.before.before.before.before.before.before.before.before.before.before.before.before.before.before.before.before.before.before.before.before).0)
-    (gave a.src.now a.state.now a.table.now a.list.now a.area.now a.tokens.now a.answer.now (not_short c.before.before.before.before.before.before.before.before.before.before.before.before.before.before.before.before.before.before.before.before.before) (left c.before.before.before.before.before.before.before.before.before.before.before.before.before.before) (left_is (goal.at.returns c).After-scan_many-ran) c.if-ran-ne0.false)
+    rw (c.put_state.ensures, le-leb _ _ (long (goal.at.returns c).Else-too_short).0)
+    (gave a.src.now a.state.now a.table.now a.list.now a.area.now a.tokens.now a.answer.now (not_short (goal.at.returns c).Else-too_short) (left (goal.at.returns c).After-scan_many-ran) (left_is (goal.at.returns c).After-scan_many-ran) c.if-ran-ne0.false)

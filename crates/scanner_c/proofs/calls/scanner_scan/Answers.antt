@@ -38,32 +38,32 @@ returns-then-too_short c = rw (sym c.too_short.ensures ∙ c.if-too_short.true)
 abbrev left : After-scan-scanned → ScanLeft
 left c =
     record {
-      answer = c.scan.result;
-      table = c.scan.new.1.1.0;
-      list = c.scan.new.1.1.1.0;
-      area = c.scan.new.1.1.1.1.0;
+      answer = c.scan-scanned.result;
+      table = c.scan-scanned.new.table;
+      list = c.scan-scanned.new.list;
+      area = c.scan-scanned.new.area;
     }
 
 -- past the test of lengths the slices are long enough
 not_short : (e : Else-too_short)
-    → let a = (start e).args in
+    → let a = e.args in
     too_short (length a.state.now) state_width (length a.token.now) token_width ≡ false
-not_short e = sym e.before.too_short.ensures ∙ e.if1.false
+not_short e = sym e.too_short.ensures ∙ e.if-too_short.false
 
 long : (e : Else-too_short)
-    → let a = (start e).args in
+    → let a = e.args in
     (state_width ≤ length a.state.now) × (token_width ≤ length a.token.now)
-long e = long_enough _ _ _ _ e.before.too_short.ensures e.if1.false
+long e = long_enough _ _ _ _ e.too_short.ensures e.if-too_short.false
 
 pub returns-then-scanned-ne0 : goal.returns-then-scanned-ne0
 unfolding scan_numbers
 returns-then-scanned-ne0 c =
-    rw (not_short c.before.before.before.before.before.before.before.before.before.before.before.before.before.before, ← c.state_in.ensures, ← c.scan-scanned.ensures, ne_eqb _ _ c.if-scanned-ne0.true)
+    rw (not_short (goal.at.returns-then-scanned-ne0 c).Else-too_short, ← c.state_in.ensures, ← c.scan-scanned.ensures, ne_eqb _ _ c.if-scanned-ne0.true)
 
 pub returns : goal.returns
 unfolding scan_numbers
 returns c =
     let a = c.args in
-    let l = long c.before.before.before.before.before.before.before.before.before.before.before.before.before.before.before.before.before.before.before.before.before.before in
-    rw (c.put_token.ensures, c.put_state.ensures, le-leb _ _ l.0, le-leb _ _ l.1, not_short c.before.before.before.before.before.before.before.before.before.before.before.before.before.before.before.before.before.before.before.before.before.before, ← c.state_in.ensures, ← c.scan-scanned.ensures)
-    (gave (left c.before.before.before.before.before.before.before.before.before.before.before.before.before.before.before.before) a.state.now a.token.now c.if-scanned-ne0.false)
+    let l = long (goal.at.returns c).Else-too_short in
+    rw (c.put_token.ensures, c.put_state.ensures, le-leb _ _ l.0, le-leb _ _ l.1, not_short (goal.at.returns c).Else-too_short, ← c.state_in.ensures, ← c.scan-scanned.ensures)
+    (gave (left (goal.at.returns c).After-scan-scanned) a.state.now a.token.now c.if-scanned-ne0.false)
