@@ -1,14 +1,14 @@
 -- Laws of digits: the tests of the code in their order, and the digit at a place of a text.
 use Prim.Native.Nat.{ℕ, ◌+◌, ◌-◌, ◌≤◌, ◌<◌}
 use Prim.Native.Char.{code}
-use mathlib.Core.Path.{◌≡◌}
+use mathlib.Core.Path.{◌≡◌, sym}
 use mathlib.Core.Bool.{Bool, cond}
 use mathlib.Core.List.{List}
 use native.Mathlib.Omega.{arith}
 use native.Mathlib.Decide.{dec_lt}
 use lib.Dec.{ltb, leb, eqb, eqb→eq}
 use lib.ListN.{length, get_or, drop}
-use borrow.Author.Tests.{lt-leb, le-leb}
+use borrow.Author.Tests.{lt-ltb, le-ltb, lt-leb, le-leb}
 use Rattle.basics.proofs.Every.{every_below}
 use Rattle.utf8.specs.Chars.{first_char}
 use Rattle.utf8.proofs.Places.{test_there}
@@ -31,6 +31,51 @@ right b = eqb (by_bounds b) (digit_val b)
 pub digit_by_bounds : (b : ℕ) → b < 256 → by_bounds b ≡ digit_val b
 unfolding right digit_val
 digit_by_bounds b h = eqb→eq _ _ (every_below right 256 tt b h)
+
+-- the number on each range that the tests of the code leave
+module _ (b : ℕ) (h : b < 256) where
+  pub before_digits : b < 48 → digit_val b ≡ 16
+  before_digits u = sym (simp (lt-ltb _ _ u) at (digit_by_bounds b h))
+
+  pub decimal : 48 ≤ b → b ≤ 57 → digit_val b ≡ b - 48
+  decimal l u = sym (simp (le-ltb _ _ l, le-leb _ _ u) at (digit_by_bounds b h))
+
+  pub after_digits : 57 < b → b < 65 → digit_val b ≡ 16
+  after_digits l u =
+      let x : 48 ≤ b = omega arith in
+      sym (simp (le-ltb _ _ x, lt-leb _ _ l, lt-ltb _ _ u) at (digit_by_bounds b h))
+
+  pub upper_case : 65 ≤ b → b ≤ 70 → digit_val b ≡ b - 65 + 10
+  upper_case l u =
+      let x : 48 ≤ b = omega arith in
+      let y : 57 < b = omega arith in
+      sym (simp (le-ltb _ _ x, lt-leb _ _ y, le-ltb _ _ l, le-leb _ _ u) at (digit_by_bounds b h))
+
+  pub after_upper_case : 70 < b → b < 97 → digit_val b ≡ 16
+  after_upper_case l u =
+      let x : 48 ≤ b = omega arith in
+      let y : 57 < b = omega arith in
+      let z : 65 ≤ b = omega arith in
+      sym (simp (le-ltb _ _ x, lt-leb _ _ y, le-ltb _ _ z, lt-leb _ _ l, lt-ltb _ _ u) at (digit_by_bounds b h))
+
+  pub lower_case : 97 ≤ b → b ≤ 102 → digit_val b ≡ b - 97 + 10
+  lower_case l u =
+      let x : 48 ≤ b = omega arith in
+      let y : 57 < b = omega arith in
+      let z : 65 ≤ b = omega arith in
+      let w : 70 < b = omega arith in
+      sym (simp (le-ltb _ _ x, lt-leb _ _ y, le-ltb _ _ z, lt-leb _ _ w, le-ltb _ _ l, le-leb _ _ u) at (digit_by_bounds b h))
+
+  pub after_lower_case : 102 < b → digit_val b ≡ 16
+  after_lower_case l =
+      let x : 48 ≤ b = omega arith in
+      let y : 57 < b = omega arith in
+      let z : 65 ≤ b = omega arith in
+      let w : 70 < b = omega arith in
+      let v : 97 ≤ b = omega arith in
+      sym (simp (le-ltb _ _ x, lt-leb _ _ y, le-ltb _ _ z, lt-leb _ _ w, le-ltb _ _ v, lt-leb _ _ l) at (digit_by_bounds b h))
+
+pub ruleset ranges = (before_digits, decimal, after_digits, upper_case, after_upper_case, lower_case, after_lower_case)
 
 -- no character above 127 is a digit
 pub digit_high : (c : ℕ) → 128 ≤ c → digit_val c ≡ 16

@@ -5,6 +5,7 @@ ghost use Rattle.std.specs.Prelude.{◌≡◌};
 ghost use Rattle.digits.specs.Digit.{digit_val, is_decimal};
 
 // The number of a hexadecimal digit, 16 for any other byte.
+#[tactic(auto, using(crate::proofs::Digits::ranges))]
 pub fn digit_val(b: u8) -> u8
     ensures { result ≡ digit_val b }
 {

@@ -2,7 +2,6 @@
 use Prim.Native.Nat.{◌<◌}
 use mathlib.Core.Path.{sym, ◌∙◌}
 use native.Mathlib.Omega.{arith}
-use borrow.Author.Rules.{rules}
 use Rattle.errors.specs.Errors.{room_of}
 use Rattle.errors.proofs.Laws.{add_over, add_full, add_gave}
 use Rattle.errors.proofs.add.Goals as goal

@@ -1,6 +1,5 @@
 -- `get` meets its contract: the error at an index below the count is the record that stands there.
 use mathlib.Core.Path.{sym}
-use borrow.Author.Rules.{rules}
 use Rattle.errors.proofs.Laws.{get_over, get_nothing, get_found}
 use Rattle.errors.proofs.get.Goals as goal
 

@@ -7,7 +7,6 @@ use borrow.Author.Tests.{leb-true, leb-false}
 use lib.Dec.{leb}
 use lib.ListN.{length, drop, length-drop}
 use lib.Seq.{take_all}
-use borrow.Author.Rules.{rules}
 use Rattle.swar.specs.Number.{number_of}
 use Rattle.swar.proofs.eight.Goals as goal
 

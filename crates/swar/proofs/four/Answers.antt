@@ -1,6 +1,5 @@
 -- `swar::four` meets its contract: the bytes in their places.
 use mathlib.Core.Path.{sym, ◌∙◌}
-use borrow.Author.Rules.{rules}
 use Rattle.swar.proofs.Numbers.{number_four}
 use Rattle.swar.proofs.four.Goals as goal
 

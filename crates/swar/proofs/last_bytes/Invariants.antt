@@ -1,12 +1,8 @@
 -- The invariant: the number is that of the bytes from i on.
-use Prim.Native.Nat.{◌+◌, ◌*◌, ◌-◌, ◌^◌, ◌≤◌, ◌<◌, min}
-use mathlib.Core.Path.{◌≡◌, sym, ap, ◌∙◌}
-use native.Mathlib.Nat.{le_refl}
-use native.Mathlib.Omega.{arith}
-use borrow.Author.Rules.{rules}
-use lib.ListN.{length, get_or, drop, drop_of_length-le}
+use Prim.Native.Nat.{◌≤◌, min}
+use mathlib.Core.Path.{◌≡◌}
+use lib.ListN.{length, drop}
 use Rattle.swar.specs.Number.{number_of}
-use Rattle.swar.proofs.Numbers.{number_before, number_last, last_fits}
 use Rattle.swar.proofs.last_bytes.Given as goal
 
 abbrev pub invariant-loop-i : goal.invariant-loop-i

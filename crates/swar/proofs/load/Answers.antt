@@ -1,7 +1,6 @@
 -- `swar::load` meets its contract: eight bytes are two times four.
 use Prim.Native.Nat.{◌+◌, ◌<◌}
 use native.Mathlib.Omega.{arith}
-use borrow.Author.Rules.{rules}
 use Rattle.swar.proofs.Numbers.{number_eight, four_fits}
 use Rattle.swar.proofs.load.Goals as goal
 use Rattle.swar.proofs.load.Goals.{After-four-high, After-four-low}

@@ -1,6 +1,5 @@
 -- `layout::read` meets its contract: each number is read where the layout has it.
 use mathlib.Core.Path.{refl}
-use borrow.Author.Rules.{rules}
 use Rattle.errors.specs.Layout.{record_at}
 use Rattle.errors.proofs.layout.read.Goals as goal
 

@@ -1,7 +1,6 @@
 -- `layout::write` meets its contract: the numbers are written one by one, in the layout's order.
 use native.Mathlib.Omega.{arith}
 use lib.ListN.{length-set}
-use borrow.Author.Rules.{rules}
 use Rattle.errors.proofs.Records.{sets_numbers}
 use Rattle.errors.proofs.layout.write.Goals as goal
 
