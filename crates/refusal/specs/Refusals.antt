@@ -1,4 +1,4 @@
--- The numbers of the refusals, under the names of the code's constants, with - for _.
+-- The numbers of the refusals, under the names of the code's constants.
 use Rattle.std.specs.Prelude.{ℕ}
 
 -- ---- from the input
