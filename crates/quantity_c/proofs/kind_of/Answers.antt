@@ -1,5 +1,4 @@
 -- `kind_of` meets its contract: a number below 256 is the kind.
-use borrow.Author.Rules.{rules}
 use borrow.Author.Tests.{lt-ltb, le-ltb}
 use Rattle.quantity_c.proofs.kind_of.Goals as goal
 

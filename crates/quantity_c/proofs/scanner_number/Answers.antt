@@ -3,7 +3,6 @@ use Prim.Native.Nat.{◌≤◌}
 use mathlib.Core.Path.{◌≡◌, sym, ◌∙◌}
 use lib.ListN.{length}
 use native.Mathlib.Omega.{arith}
-use borrow.Author.Rules.{rules}
 use Rattle.refusal.proofs.Lengths.{long_enough}
 use Rattle.parts.specs.Layout.{token_width}
 use Rattle.quantity.specs.Pair.{answer_outcome}

@@ -2,7 +2,6 @@
 use mathlib.Core.Path.{◌≡◌, sym, ap₂, ◌∙◌}
 use mathlib.Core.Bool.{true}
 use lib.ListN.{get_or}
-use borrow.Author.Rules.{rules}
 use Rattle.numbers.specs.Number.{starts_number}
 use Rattle.quantity_query.specs.Given.{is_real, is_given}
 use Rattle.quantity_query.proofs.is_given.Goals as goal

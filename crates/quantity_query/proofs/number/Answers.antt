@@ -1,5 +1,4 @@
 -- `quantity_query::number` meets its contract: by what the part shows.
-use borrow.Author.Rules.{rules}
 use borrow.Author.Tests.{eq-eqb, ne_eqb}
 use Rattle.quantity_query.specs.Number.{number_in}
 use Rattle.quantity_query.proofs.number.Goals as goal

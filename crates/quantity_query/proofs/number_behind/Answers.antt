@@ -1,6 +1,5 @@
 -- `quantity_query::number_behind` meets its contract: by whether a scan gives such a text.
 use mathlib.Core.Path.{sym, ◌∙◌}
-use borrow.Author.Rules.{rules}
 use Rattle.quantity_query.specs.Number.{number_behind}
 use Rattle.quantity_query.proofs.number_behind.Goals as goal
 
