@@ -2,7 +2,6 @@
 use Prim.Native.Nat.{◌+◌, ◌*◌, ◌<◌, ◌^◌}
 use native.Mathlib.Nat.{add-zero}
 use native.Mathlib.Omega.{arith}
-use borrow.Author.Rules.{rules}
 use Rattle.scanner.proofs.answer.part_from.Goals as goal
 use Rattle.scanner.proofs.answer.part_from.Goals.{Then-area}
 

@@ -1,5 +1,4 @@
 -- `answer::value_start` meets its contract: each test of the code is one of the definition's.
-use borrow.Author.Rules.{rules}
 use borrow.Author.Tests.{eq-eqb, ne_eqb}
 use Rattle.scanner.proofs.answer.value_start.Goals as goal
 

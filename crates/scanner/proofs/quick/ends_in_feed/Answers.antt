@@ -1,5 +1,4 @@
 -- `quick::ends_in_feed` meets its contract: its tests are those of the definition.
-use borrow.Author.Rules.{rules}
 use borrow.Author.Tests.{eq-eqb, ne_eqb, lt-ltb, le-ltb}
 use Rattle.scanner.specs.Quick.{ends_in_feed}
 use Rattle.scanner.proofs.quick.ends_in_feed.Goals as goal

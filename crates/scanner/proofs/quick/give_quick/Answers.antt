@@ -1,6 +1,5 @@
 -- `quick::give_quick` meets its contract: the line starts, and the token on the last line of the table.
 use native.Mathlib.Omega.{arith}
-use borrow.Author.Rules.{rules}
 use Rattle.scanner.proofs.quick.give_quick.Goals as goal
 
 pub overflow_add-lines-2 : goal.overflow_add-lines-2

@@ -1,5 +1,4 @@
 -- `quick::given` meets its contract: the token, and the state after it.
-use borrow.Author.Rules.{rules}
 use Rattle.scanner.proofs.quick.given.Goals as goal
 
 pub returns : goal.returns

@@ -1,5 +1,4 @@
 -- `quick::is_quick` meets its contract: its two tests are those of the definition.
-use borrow.Author.Rules.{rules}
 use Rattle.scanner.proofs.quick.is_quick.Goals as goal
 
 pub returns : goal.returns

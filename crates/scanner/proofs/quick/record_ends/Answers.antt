@@ -2,11 +2,9 @@
 use Prim.Native.Nat.{ℕ, ◌-◌}
 use mathlib.Core.Path.{◌≡◌, ap, ◌∙◌}
 use mathlib.Core.List.{List}
-use mathlib.Core.Logic.{⊎_elim}
 use native.Mathlib.Omega.{arith}
 use lib.ListN.{length, length-set}
 use lib.Seq.{sets, length-sets}
-use borrow.Author.Rules.{rules}
 use Rattle.scanner.specs.Steps.{starts_from}
 use Rattle.scanner.proofs.Pass.{sets_none}
 use Rattle.scanner.proofs.Ends.{end_none, end_one}

@@ -4,10 +4,8 @@ use mathlib.Core.Path.{◌≡◌, sym, ◌∙◌}
 use mathlib.Core.Bool.{true}
 use native.Mathlib.Omega.{arith}
 use lib.ListN.{length}
-use borrow.Author.Tests.{not-false}
 use Rattle.scanner.specs.Quick.{ends_in_feed, is_quick}
 use Rattle.scanner.proofs.Tries.{tries_none, lines_fit, feeds_within, offset_fits, feeds_fit, quick_plain, tries_on_line, quick_ready, tries_done}
-use borrow.Author.Rules.{rules}
 use Rattle.scanner.proofs.quick.try_plain.Goals as goal
 use Rattle.scanner.proofs.quick.try_plain.Goals.{Else-not-ends_in_feed, Else-not-is_quick, Start}
 

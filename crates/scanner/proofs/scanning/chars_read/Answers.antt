@@ -7,7 +7,6 @@ use Rattle.utf8.specs.Chars.{chars}
 use Rattle.blanks.specs.declared.Skipped.{Skipped}
 use Rattle.blanks.specs.Blank.{skip}
 use Rattle.scanner.proofs.Pass.{start_behind, read_fits}
-use borrow.Author.Rules.{rules}
 use Rattle.scanner.proofs.scanning.chars_read.Goals as goal
 use Rattle.scanner.proofs.scanning.chars_read.Goals.{Start}
 

@@ -1,6 +1,5 @@
 -- `scanning::commit` meets its contract: the token, what is written, and the state after it.
 use Rattle.scanner.proofs.Committed.{position_fits, commit_is}
-use borrow.Author.Rules.{rules}
 use Rattle.scanner.proofs.scanning.commit.Goals as goal
 
 pub position_at-requires : goal.position_at-requires

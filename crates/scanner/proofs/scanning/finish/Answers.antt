@@ -11,7 +11,6 @@ use Rattle.blanks.specs.Blank.{skip}
 use Rattle.scanner.specs.Steps.{refusal_by, starts_from, Ready, commit_of}
 use Rattle.scanner.proofs.Pass.{read_bound, offset_fits, feeds_read, feeds_fit}
 use Rattle.scanner.proofs.Scans.{Held, held, scan_refused, scan_gave, ready}
-use borrow.Author.Rules.{rules}
 use Rattle.scanner.proofs.scanning.finish.Goals as goal
 use Rattle.scanner.proofs.scanning.finish.Goals.{After-refusal_of-number, After-starts_read-starts, Start}
 

@@ -1,11 +1,9 @@
 -- `scanning::has_room` meets its contract: what is left of the area after the text is compared with the value.
 use mathlib.Core.Path.{◌≡◌}
 use mathlib.Core.Bool.{cond}
-use mathlib.Core.Logic.{⊎_elim}
 use Prim.Native.Nat.{◌+◌}
 use native.Mathlib.Nat.{zero-add}
 use native.Mathlib.Omega.{arith}
-use borrow.Author.Rules.{rules}
 use Rattle.scanner.specs.Steps.{text_len}
 use Rattle.scanner.proofs.Refusals.{half_over, half_fits, half_left, over_text, over_value, fits_value, fits_text}
 use Rattle.scanner.proofs.scanning.has_room.Goals as goal

@@ -1,5 +1,4 @@
 -- `scanning::record_error` meets its contract: no error leaves the list as it is.
-use borrow.Author.Rules.{rules}
 use borrow.Author.Tests.{eq-eqb, ne_eqb}
 use Rattle.scanner.proofs.Refusals.{list_room_lem}
 use Rattle.scanner.proofs.scanning.record_error.Goals as goal

@@ -1,5 +1,4 @@
 -- `scanning::record_starts` meets its contract: no starts leave the table as it is.
-use borrow.Author.Rules.{rules}
 use mathlib.Core.Path.{sym, ◌∙◌}
 use Rattle.scanner.specs.Steps.{starts_from}
 use Rattle.scanner.proofs.Pass.{sets_none}

@@ -2,10 +2,7 @@
 use Prim.Native.Nat.{◌+◌, ◌≤◌}
 use mathlib.Core.Path.{sym, ◌∙◌}
 use mathlib.Core.Bool.{cond}
-use mathlib.Core.Logic.{⊎_elim}
 use lib.Dec.{eqb}
-use borrow.Author.Rules.{rules}
-use borrow.Author.Tests.{not-true, not-false}
 use Rattle.scanner.proofs.Refusals.{refusal_size, refusal_table, refusal_list, refusal_area, refusal_none, list_none, list_one}
 use Rattle.scanner.proofs.scanning.refusal_of.Goals as goal
 use Rattle.scanner.proofs.scanning.refusal_of.Goals.{Joined-x-ne0, then-x-ne0+else-state-list, else-x-ne0}

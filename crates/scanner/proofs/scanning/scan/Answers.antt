@@ -1,7 +1,5 @@
 -- `scanning::scan` meets its contract: where the state fits, the rest is the next function's.
 use mathlib.Core.Path.{sym, ◌∙◌}
-use borrow.Author.Rules.{rules}
-use borrow.Author.Tests.{not-true, not-false}
 use Rattle.scanner.proofs.Scans.{scan_unfit}
 use Rattle.scanner.proofs.scanning.scan.Goals as goal
 

@@ -5,7 +5,6 @@ use mathlib.Core.List.{List}
 use borrow.Author.Tests.{not-true, not-false}
 use Rattle.scanner.specs.Scan.{scan_of}
 use Rattle.scanner.proofs.Scans.{held}
-use borrow.Author.Rules.{rules}
 use Rattle.scanner.proofs.scanning.scan_next.Goals as goal
 use Rattle.scanner.proofs.scanning.scan_next.Goals.{After-try_plain-tried, Start, Then-not-tried}
 

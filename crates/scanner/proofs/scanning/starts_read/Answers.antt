@@ -1,5 +1,4 @@
 -- `scanning::starts_read` meets its contract: before the size each line feed starts a line.
-use borrow.Author.Rules.{rules}
 use Rattle.scanner.proofs.Pass.{starts_feeds}
 use Rattle.scanner.proofs.scanning.starts_read.Goals as goal
 

@@ -2,11 +2,9 @@
 use Prim.Native.Nat.{◌+◌}
 use mathlib.Core.Path.{◌≡◌}
 use mathlib.Core.Bool.{cond}
-use mathlib.Core.Logic.{⊎_elim}
 use native.Mathlib.Nat.{add-zero}
 use lib.Dec.{eqb}
 use borrow.Author.Tests.{eq-eqb, ne_eqb}
-use borrow.Author.Rules.{rules}
 use Rattle.scanner.proofs.scanning.state_after.Goals as goal
 use Rattle.scanner.proofs.scanning.state_after.Goals.{Joined-x-eq0, else-x-eq0, then-x-eq0}
 

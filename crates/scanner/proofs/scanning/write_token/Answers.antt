@@ -1,7 +1,6 @@
 -- `scanning::write_token` meets its contract: each call writes one buffer of the definition, and the state is that of the table then.
 use native.Mathlib.Omega.{arith}
 use Rattle.scanner.proofs.Committed.{state_ready, error_ready, left_is}
-use borrow.Author.Rules.{rules}
 use Rattle.scanner.proofs.scanning.write_token.Goals as goal
 
 pub state_after-after-requires : goal.state_after-after-requires

@@ -1,9 +1,7 @@
 -- `write::write_area` meets its contract: the text at the area's start, if it differs, and the value after it.
 use Prim.Native.Nat.{◌+◌, ◌*◌, ◌≤◌}
 use mathlib.Core.Path.{◌≡◌, sym, ap, ◌∙◌}
-use mathlib.Core.Logic.{⊎_elim}
 use native.Mathlib.Omega.{arith}
-use borrow.Author.Rules.{rules}
 use lib.ListN.{length}
 use lib.Seq.{length-sets}
 use Rattle.lexer.specs.Placed.{said}

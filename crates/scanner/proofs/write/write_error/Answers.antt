@@ -1,6 +1,5 @@
 -- `write::write_error` meets its contract: the column counts from the start of the line, and the list has room.
 use mathlib.Core.Path.{ap, ◌∙◌}
-use borrow.Author.Rules.{rules}
 use Rattle.errors.specs.Errors.{AddLeft}
 use Rattle.errors.proofs.Laws.{add_gave}
 use Rattle.scanner.proofs.write.write_error.Goals as goal

@@ -1,6 +1,5 @@
 -- `write::write_text` meets its contract, one way of making the text after the other.
 use mathlib.Core.Path.{ap, ◌∙◌}
-use borrow.Author.Rules.{rules}
 use lib.Seq.{sets}
 use Rattle.scanner.proofs.Areas.{said_text}
 use Rattle.scanner.proofs.write.write_text.Goals as goal

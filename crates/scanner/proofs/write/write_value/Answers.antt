@@ -1,6 +1,5 @@
 -- `write::write_value` meets its contract, one way of making the value after the other.
 use mathlib.Core.Path.{ap, ◌∙◌}
-use borrow.Author.Rules.{rules}
 use lib.Seq.{sets}
 use Rattle.scanner.proofs.Areas.{said_value}
 use Rattle.scanner.proofs.write.write_value.Goals as goal
