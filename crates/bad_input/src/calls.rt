@@ -3,7 +3,7 @@ use crate::machine::{Machine, of_bytes, of_numbers, sum_all};
 use crate::registers::{
     AREA, FROM, LIST, MODE, NUMBER, Registers, SOURCE, START, TABLE, with, with_state,
 };
-use crate::{places, scans, show, texts, words};
+use crate::{cases, places, scans, show, texts};
 use scanner::{Part, State};
 
 // A call that is lent buffers; gives the state after it.
@@ -92,7 +92,7 @@ fn end_call(machine: Machine, cases: &[u8], byte: u8) -> Machine {
     };
     let mut refusal: u8 = 0;
     let source = scanner::shown(cases, cases, part, &mut refusal);
-    let words = with(registers, MODE, words::WORDS);
+    let words = with(registers, MODE, cases::WORDS);
     let mut after = machine;
     after.registers = words;
     call(after, source, (registers[MODE] % 256) as u8, byte)
@@ -101,10 +101,10 @@ fn end_call(machine: Machine, cases: &[u8], byte: u8) -> Machine {
 // Reads the byte at a place of the cases.
 pub(crate) fn read(machine: Machine, cases: &[u8], at: usize, byte: u8) -> Machine {
     let registers = machine.registers;
-    if registers[MODE] > words::SOURCE_TEXT {
+    if registers[MODE] > cases::SOURCE_TEXT {
         return end_call(machine, cases, byte);
     }
-    let read = words::read(registers, byte, at);
+    let read = cases::read(registers, byte, at);
     let mut after = machine;
     after.registers = read;
     after

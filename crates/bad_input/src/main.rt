@@ -11,13 +11,13 @@
 #![tactic(auto)]
 
 mod calls;
+mod cases;
 mod machine;
 mod places;
 mod registers;
 mod scans;
 mod show;
 mod texts;
-mod words;
 
 use machine::Machine;
 

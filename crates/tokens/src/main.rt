@@ -8,7 +8,7 @@ mod listing;
 mod output;
 mod people;
 mod show;
-mod words;
+mod texts;
 
 use std::env;
 

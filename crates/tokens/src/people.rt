@@ -1,6 +1,6 @@
 // The lines of a listing for people. Each answers how many bytes of output wait then.
 use crate::output::Buffer;
-use crate::{caret, output, words};
+use crate::{caret, output, texts};
 use errors::Error;
 use position::Position;
 use scanner::Token;
@@ -86,7 +86,7 @@ pub(crate) fn token(
 pub(crate) fn error(out: &mut Buffer, waiting: usize, src: &[u8], error: Error) -> usize {
     let mut end = line_and_column(out, waiting, error.line, error.column);
     end = output::bytes(out, end, b": ");
-    end = words::error(out, end, error.number);
+    end = texts::error(out, end, error.number);
     end = output::byte(out, end, b'\n');
     caret::line(out, end, src, error.line, error.column)
 }
@@ -114,7 +114,7 @@ pub(crate) fn end(out: &mut Buffer, waiting: usize, lines: usize, errors: usize)
 // The last line of a listing that a refusal ends; then all is written.
 pub(crate) fn refused(out: &mut Buffer, waiting: usize, number: u8, place: usize) {
     let mut end = output::bytes(out, waiting, b"refused: ");
-    end = words::refusal(out, end, number);
+    end = texts::refusal(out, end, number);
     if number == refusal::NOT_UTF8 {
         end = output::bytes(out, end, b": byte ");
         end = output::decimal(out, end, place);
