@@ -1,9 +1,7 @@
 -- `bench_utf8::check_often` meets its contract: the loop keeps the length of the text.
 use Prim.Native.Nat.{◌≤◌, ◌-◌}
 use mathlib.Core.Path.{◌≡◌}
-use mathlib.Core.Logic.{⊎_elim}
-use borrow.Author.Rules.{rules}
-use lib.ListN.{length, length-set}
+use lib.ListN.{length}
 use Rattle.bench_utf8.proofs.check_often.Given as goal
 
 abbrev pub invariant-loop-k : goal.invariant-loop-k
