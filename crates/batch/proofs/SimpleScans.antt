@@ -10,7 +10,6 @@ use lib.Dec.{eqb}
 use lib.ListN.{length, length-set}
 use lib.Seq.{sets}
 use borrow.Author.Tests.{le-leb, eqb-true}
-use Rattle.utf8.specs.Chars.{chars}
 use Rattle.kinds.specs.Kinds.{EOF}
 use Rattle.position.proofs.Place.{Fit, fit}
 use Rattle.errors.specs.Errors.{room_of}

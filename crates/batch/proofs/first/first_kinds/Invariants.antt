@@ -1,5 +1,5 @@
 -- The table with the letters and the digits so far.
-use Prim.Native.Nat.{ℕ, ◌-◌, ◌≤◌}
+use Prim.Native.Nat.{◌-◌, ◌≤◌}
 use mathlib.Core.Path.{◌≡◌}
 use Rattle.batch.proofs.Firsts.{lettered, counted}
 use Rattle.batch.proofs.first.first_kinds.Given as goal

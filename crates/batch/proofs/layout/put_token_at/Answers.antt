@@ -2,7 +2,6 @@
 use Prim.Native.Nat.{◌+◌, ◌-◌}
 use mathlib.Core.Path.{◌≡◌, ◌∙◌}
 use native.Mathlib.Omega.{arith}
-use borrow.Author.Rules.{rules}
 use Rattle.parts.specs.Layout.{token_width, token_numbers}
 use Rattle.batch.proofs.Parts.{part_length, part_written}
 use Rattle.batch.proofs.layout.put_token_at.Goals as goal

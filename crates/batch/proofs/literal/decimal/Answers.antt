@@ -1,12 +1,10 @@
 -- `literal::decimal` meets its contract: what was read is digits alone, and nothing after them belongs to a number.
 use Prim.Native.Nat.{◌+◌, ◌<◌}
 use mathlib.Core.Bool.{false, true≢false}
-use mathlib.Core.Logic.{⊎_elim}
 use mathlib.Core.Path.{◌≡◌, refl, sym, ◌∙◌}
 use native.Mathlib.Omega.{arith}
 use native.Mathlib.Decide.{dec_lt}
 use lib.ListN.{get_or}
-use borrow.Author.Rules.{rules}
 use Rattle.numbers.proofs.Decimal.{goes_on}
 use Rattle.batch.proofs.Giving.{gives_none}
 use Rattle.batch.proofs.DecimalTokens.{goes_not_on, gives_integer}

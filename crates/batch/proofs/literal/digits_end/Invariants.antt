@@ -1,14 +1,9 @@
 -- `literal::digits_end` meets its contract. The loop's invariant: each byte passed is a decimal digit.
 use Prim.Native.Nat.{ℕ, ◌-◌, ◌≤◌, ◌<◌}
-use mathlib.Core.Path.{◌≡◌, sym, subst, ◌∙◌}
+use mathlib.Core.Path.{◌≡◌}
 use mathlib.Core.Bool.{true}
-use native.Mathlib.Omega.{arith}
-use native.Mathlib.Decide.{dec_lt}
 use lib.ListN.{get_or}
-use borrow.Author.Rules.{rules}
 use Rattle.digits.specs.Digit.{is_decimal}
-use Rattle.batch.specs.Simple.{first_kind}
-use Rattle.batch.proofs.SimpleTokens.{digit_first, no_digit}
 use Rattle.batch.proofs.literal.digits_end.Given as goal
 
 abbrev pub invariant-loop-end : goal.invariant-loop-end

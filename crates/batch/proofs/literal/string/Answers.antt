@@ -1,7 +1,6 @@
 -- `literal::string` meets its contract: a run of plain characters before the closing quote is the whole body.
 use mathlib.Core.Path.{refl}
 use native.Mathlib.Omega.{arith}
-use borrow.Author.Rules.{rules}
 use Rattle.batch.proofs.Giving.{gives_none}
 use Rattle.batch.proofs.StringTokens.{gives_string}
 use Rattle.batch.proofs.literal.string.Goals as goal

@@ -1,6 +1,5 @@
 -- `many::gave` meets its contract: the line that it reads is the state's.
 use mathlib.Core.Path.{◌∙◌}
-use borrow.Author.Rules.{rules}
 use Rattle.batch.proofs.Runs.{state_start}
 use Rattle.batch.proofs.many.gave.Goals as goal
 

@@ -1,7 +1,5 @@
 -- `batch::scan_many` meets its contract.
 use mathlib.Core.Path.{sym, ◌∙◌}
-use borrow.Author.Rules.{rules}
-use borrow.Author.Tests.{not-true, not-false}
 use Rattle.batch.proofs.Given.{no_room, first_unfit}
 use Rattle.batch.proofs.many.scan_many.Goals as goal
 

@@ -1,17 +1,9 @@
 -- `many::scan_rounds` meets its contract. The loop's invariant: the rounds made so far come to the present one.
 use Prim.Native.Nat.{◌+◌, ◌-◌}
-use mathlib.Core.Path.{◌≡◌, refl}
+use mathlib.Core.Path.{◌≡◌}
 use mathlib.Core.Bool.{cond}
-use native.Mathlib.Omega.{arith}
 use lib.ListN.{length}
-use borrow.Author.Rules.{rules}
-use Rattle.position.proofs.Place.{fit}
-use Rattle.state.specs.Fits.{file_of}
-use Rattle.scanner.proofs.Scans.{held}
 use Rattle.batch.specs.Run.{Comes}
-use Rattle.batch.specs.Many.{token_room}
-use Rattle.batch.proofs.Given.{none_given, some_given}
-use Rattle.batch.proofs.Rounds.{less_left, comes_start, comes_on, comes_end, comes_none}
 use Rattle.batch.proofs.many.scan_rounds.Given as goal
 
 abbrev pub invariant-loop-round : goal.invariant-loop-round

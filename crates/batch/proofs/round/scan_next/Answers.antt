@@ -3,7 +3,6 @@ use Prim.Native.Nat.{◌+◌, ◌*◌, ◌≤◌}
 use mathlib.Core.Bool.{false≢true}
 use native.Mathlib.Omega.{arith}
 use lib.ListN.{length}
-use borrow.Author.Rules.{rules}
 use Rattle.scanner.specs.Scan.{ScanLeft}
 use Rattle.parts.specs.Layout.{token_width}
 use Rattle.batch.proofs.Given.{token_fits}

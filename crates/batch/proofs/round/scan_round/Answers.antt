@@ -1,7 +1,6 @@
 -- `round::scan_round` meets its contract.
 use mathlib.Core.Bool.{false≢true}
 use native.Mathlib.Omega.{arith}
-use borrow.Author.Rules.{rules}
 use Rattle.batch.proofs.Rounds.{comes_full, comes_behind}
 use Rattle.batch.proofs.round.scan_round.Goals as goal
 

@@ -1,16 +1,9 @@
 -- `run::run_simple` meets its contract. The loop's invariant: the tokens given so far lead to the place that is reached.
 use Prim.Native.Nat.{◌+◌, ◌-◌, ◌≤◌, ◌<◌}
-use mathlib.Core.Path.{◌≡◌, refl, sym, subst}
+use mathlib.Core.Path.{◌≡◌}
 use mathlib.Core.Bool.{true, cond}
-use native.Mathlib.Omega.{arith}
 use lib.ListN.{length}
-use borrow.Author.Rules.{rules}
-use Rattle.position.proofs.Place.{fit}
-use Rattle.state.specs.Fits.{file_of}
-use Rattle.scanner.proofs.Scans.{held}
 use Rattle.batch.specs.Run.{reached, Leads}
-use Rattle.batch.proofs.Runs.{offset_within, size_small, state_start}
-use Rattle.batch.proofs.Rounds.{leads_here, leads_on, less_left}
 use Rattle.batch.proofs.run.run_simple.Given as goal
 
 abbrev pub invariant-loop-at : goal.invariant-loop-at

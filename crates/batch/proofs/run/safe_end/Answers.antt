@@ -1,7 +1,5 @@
 -- `batch::run::safe_end` meets its contract: the limit is at most the length and at most where the size ends.
-use mathlib.Core.Logic.{⊎_elim}
 use native.Mathlib.Omega.{arith}
-use borrow.Author.Rules.{rules}
 use Rattle.batch.proofs.run.safe_end.Goals as goal
 use Rattle.batch.proofs.run.safe_end.Goals.{else-sized-src, then-sized-src}
 

@@ -1,13 +1,11 @@
 -- `simple::delimiter` meets its contract: a byte that tells a delimiter, for a point with a letter after it.
 use Prim.Native.Nat.{◌+◌, ◌<◌}
 use mathlib.Core.Bool.{false, true}
-use mathlib.Core.Logic.{⊎_elim}
 use mathlib.Core.Path.{◌≡◌, refl, sym, ◌∙◌}
 use native.Mathlib.Nat.{add-zero}
 use native.Mathlib.Omega.{arith}
 use lib.ListN.{get_or}
 use borrow.Author.Tests.{ne_eqb}
-use borrow.Author.Rules.{rules}
 use Rattle.kinds.specs.Kinds.{STRING, PERIOD}
 use Rattle.words.specs.Word.{is_letter}
 use Rattle.lexer.specs.declared.lexed.Text.TheVariants.{Empty}

@@ -3,7 +3,6 @@ use Prim.Native.Nat.{◌<◌}
 use mathlib.Core.Path.{◌≡◌, sym, ◌∙◌}
 use native.Mathlib.Omega.{arith}
 use lib.ListN.{get_or}
-use borrow.Author.Rules.{rules}
 use Rattle.batch.specs.Simple.{first_kind}
 use Rattle.batch.proofs.SimpleTokens.{letter_first, digit_first, quote_first}
 use Rattle.batch.proofs.Giving.{gives_none}

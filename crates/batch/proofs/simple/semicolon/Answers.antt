@@ -3,7 +3,6 @@ use mathlib.Core.Bool.{true, false}
 use mathlib.Core.Path.{refl, ◌∙◌}
 use native.Mathlib.Nat.{add-zero}
 use native.Mathlib.Omega.{arith}
-use borrow.Author.Rules.{rules}
 use Rattle.kinds.specs.Kinds.{SEMICOLON}
 use Rattle.lexer.specs.declared.lexed.Text.TheVariants.{Empty}
 use Rattle.batch.proofs.SimpleTokens.{feed_read}

@@ -5,10 +5,8 @@ use mathlib.Core.Bool.{true, false≢true}
 use native.Mathlib.Omega.{arith}
 use lib.ListN.{length, drop}
 use borrow.Author.Tests.{not-true, not-false, ltb-true}
-use borrow.Author.Rules.{rules}
 use Rattle.utf8.specs.Chars.{chars}
 use Rattle.blanks.specs.Blank.{skip, skipped_at}
-use Rattle.batch.specs.declared.near.Near.{Near}
 use Rattle.parts.specs.Layout.{token_width}
 use Rattle.batch.specs.Near.{near_as}
 use Rattle.batch.specs.Run.{reached}

@@ -2,7 +2,6 @@
 use mathlib.Core.Path.{sym, ◌∙◌}
 use mathlib.Core.Bool.{false≢true}
 use native.Mathlib.Omega.{arith}
-use borrow.Author.Tests.{not-false}
 use Rattle.batch.proofs.step.ready_blanks.Goals as goal
 
 pub returns-then-safe-at : goal.returns-then-safe-at

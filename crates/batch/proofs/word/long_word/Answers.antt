@@ -1,6 +1,5 @@
 -- `word::long_word` meets its contract: the word that the two searches tell.
 use native.Mathlib.Omega.{arith}
-use borrow.Author.Rules.{rules}
 use Rattle.batch.proofs.Giving.{gives_none, gives_word}
 use Rattle.batch.proofs.word.long_word.Goals as goal
 

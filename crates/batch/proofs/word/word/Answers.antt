@@ -3,7 +3,6 @@ use Prim.Native.Nat.{◌<◌}
 use mathlib.Core.Path.{◌≡◌, sym, ap, ◌∙◌}
 use native.Mathlib.Omega.{arith}
 use lib.ListN.{take, drop, length-drop}
-use borrow.Author.Rules.{rules}
 use Rattle.utf8.specs.Chars.{chars}
 use Rattle.swar.specs.Number.{number_of}
 use Rattle.swar.proofs.Numbers.{bytes_drop}
