@@ -6,10 +6,8 @@ use native.Mathlib.Decide.{dec_lt}
 use lib.ListN.{get_or}
 use borrow.Author.Rules.{rules}
 use Rattle.digits.specs.Digit.{is_decimal}
-use Rattle.batch.specs.Simple.{first_kind}
 use Rattle.batch.proofs.SimpleTokens.{digit_first, no_digit}
 use Rattle.batch.proofs.literal.digits_end.Goals as goal
-use Rattle.batch.proofs.literal.digits_end.Goals.{After-t12-1}
 
 pub loop-end-init : goal.loop-end-init
 loop-end-init c = (search rules, search rules, λ p l h. absurd (omega arith))
@@ -20,25 +18,18 @@ overflow_cast-src c = omega (arith, c.type_inv.src c.loop-end.end)
 pub bounds-firsts-src : goal.bounds-firsts-src
 bounds-firsts-src c = omega (arith, c.type_inv.src c.loop-end.end)
 
--- the byte there, and what the table says of it
-module _ (c : After-t12-1) where
-  small : get_or c.args.src.now c.loop-end.end 0 < 256
-  small = omega (arith, c.type_inv.src c.loop-end.end)
-
-  told : get_or c.args.firsts.now (get_or c.args.src.now c.loop-end.end 0) 0
-      ≡ first_kind (get_or c.args.src.now c.loop-end.end 0)
-  told = c.requires.0.1 _ small
-
 pub returns-then-firsts-src-ne-INT : goal.returns-then-firsts-src-ne-INT
 returns-then-firsts-src-ne-INT c =
     let i = c.loop-end.invariant in
-    (i.0, i.1, i.2, λ _. no_digit _ (λ e. c.if-firsts-src-ne-INT.true (told (goal.at.returns-then-firsts-src-ne-INT c).After-t12-1 ∙ e)))
+    let small : get_or c.args.src.now c.loop-end.end 0 < 256 = omega (arith, c.type_inv.src c.loop-end.end) in
+    (i.0, i.1, i.2, λ _. no_digit _ (λ e. c.if-firsts-src-ne-INT.true (c.requires.0.1 _ small ∙ e)))
 
 pub loop-end-preserved : goal.loop-end-preserved
 loop-end-preserved c =
     let l = c.loop-end in
     let src = c.args.src.now in
-    let here = digit_first _ (small (goal.at.loop-end-preserved c).After-t12-1) (sym (told (goal.at.loop-end-preserved c).After-t12-1) ∙ c.if-firsts-src-ne-INT.false) in (
+    let small : get_or c.args.src.now c.loop-end.end 0 < 256 = omega (arith, c.type_inv.src c.loop-end.end) in
+    let here = digit_first _ small (sym (c.requires.0.1 _ small) ∙ c.if-firsts-src-ne-INT.false) in (
       search rules,
       search rules,
       λ p low h.
