@@ -10,20 +10,28 @@ mod people;
 mod show;
 mod texts;
 
-use std::env;
+use std::env::Env;
 
 // Standard input, a file that every program has open.
 const INPUT: i32 = 0;
 
 // Is the first argument `--names`?
-fn wants_names(rt: &HostRuntime) -> std::io::Result<bool> {
-    match env::args(rt)?.nth(1) {
-        Some(word) => Ok(word.as_str() == "--names"),
-        None => Ok(false),
+fn wants_names(rt: &HostRuntime) -> bool {
+    let mut word = [0u8; 8];
+    let n = rt.arg(1, &mut word).unwrap_or(0);
+    if n != 7 {
+        return false;
     }
+    word[0] == b'-'
+        && word[1] == b'-'
+        && word[2] == b'n'
+        && word[3] == b'a'
+        && word[4] == b'm'
+        && word[5] == b'e'
+        && word[6] == b's'
 }
 
-fn main(rt: HostRuntime) -> std::io::Result<()> {
+fn main(rt: HostRuntime) {
     // one byte more than the longest text has
     let mut src = [0u8; 65537];
     let mut area = [0u8; 65536];
@@ -31,8 +39,7 @@ fn main(rt: HostRuntime) -> std::io::Result<()> {
     // 1,024 errors of 4 numbers
     let mut list = [0usize; 4096];
     let mut out = [0u8; 4096];
-    let names = wants_names(&rt)?;
+    let names = wants_names(&rt);
     let n = io::read_full(INPUT, &mut src);
     listing::list(names, &src[..n], &mut table, &mut list, &mut area, &mut out);
-    Ok(())
 }

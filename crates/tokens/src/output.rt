@@ -1,5 +1,6 @@
 // Output by way of a buffer, whose first `waiting` bytes are still to be written. What adds to it
 // answers how many wait then.
+
 // Standard output, a file that every program has open.
 const OUTPUT: i32 = 1;
 
