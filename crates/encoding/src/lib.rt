@@ -10,22 +10,14 @@ ghost use Rattle.encoding.specs.Steps.{digit, lead};
 pub fn encoded_len(code: u32) -> usize
     ensures { result ≡ length (encode code) }
 {
-    if code < 0x80 {
-        return 1;
+    match code {
+        0..=0x7F => 1,
+        0x80..=0x7FF => 2,
+        0x800..=0xD7FF => 3,
+        0xE000..=0xFFFF => 3,
+        0x1_0000..=0x10_FFFF => 4,
+        _ => 0,
     }
-    if code < 0x800 {
-        return 2;
-    }
-    if code < 0xD800 {
-        return 3;
-    }
-    if code < 0xE000 {
-        return 0;
-    }
-    if code < 0x10000 {
-        return 3;
-    }
-    if code < 0x110000 { 4 } else { 0 }
 }
 
 // A code without its last six bits, as often as `times` says.

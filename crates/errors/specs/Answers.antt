@@ -1,18 +1,12 @@
 -- What each answer of this crate comes to.
-use Rattle.std.specs.Prelude.{ℕ}
+use Rattle.std.specs.Prelude.{Result, Ok, Err, Some, None, Option as Optional}
 use Rattle.std.proofs.Math.Option.{Option, none, some}
-use Rattle.refusal.specs.Outcome.{Outcome, refused, gave}
+use Rattle.refusal.specs.declared.Refusal.{Refusal}
+use Rattle.refusal.specs.Outcome.{Outcome, refused, gave, refusal_number}
 use Rattle.errors.specs.declared.layout.Error.{Error}
-use Rattle.errors.specs.declared.Added.{Added}
-use Rattle.errors.specs.declared.Added.TheVariants.{Count, Refused}
-use Rattle.errors.specs.declared.Got.{Got}
-use Rattle.errors.specs.declared.Got.TheVariants.{Found, Nothing, Refused as NotGot}
 
-abbrev pub add_outcome : Added → Outcome ℕ
-add_outcome (Count n) = gave n
-add_outcome (Refused n) = refused n
-
-abbrev pub got : Got → Outcome (Option Error)
-got (Found e) = gave (some e)
-got Nothing = gave none
-got (NotGot n) = refused n
+-- the code's options are the definition's
+abbrev pub got : Result (Optional Error) Refusal → Outcome (Option Error)
+got (Ok (Some e)) = gave (some e)
+got (Ok None) = gave none
+got (Err refusal) = refused (refusal_number refusal)

@@ -2,3 +2,4 @@ pub mod Layout
 pub mod Errors
 pub mod Answers
 pub mod Numbers
+pub mod Faults

@@ -1,4 +1,4 @@
--- The numbers of the errors, under the names of the code's constants. 0 means no error.
+-- The numbers of the errors, under the names that the documents give them. 0 means no error.
 use Rattle.std.specs.Prelude.{ℕ}
 
 -- binary number

@@ -2,33 +2,17 @@
 #![tactic(auto)]
 
 ghost use Rattle.std.specs.Prelude.{◌≡◌};
-ghost use Rattle.errors.specs.Answers.{add_outcome, got};
+ghost use Rattle.refusal.specs.Outcome.{outcome_of};
+ghost use Rattle.errors.specs.Answers.{got};
 ghost use Rattle.errors.specs.Errors.{room_of, add_to, get_of};
 
+use refusal::Refusal;
+
+mod fault;
 mod layout;
-mod names;
 
+pub use fault::Fault;
 pub use layout::Error;
-pub use names::{
-    BAD_BINARY, BAD_ESCAPE, BAD_EXPONENT, BAD_HEXADECIMAL, BAD_OCTAL, CUT_ESCAPE,
-    MISPLACED_UNDERSCORE, NO_CODE_POINT, NOT_ONE_CHARACTER, OPEN_COMMENT, OPEN_QUOTE,
-    OPEN_RAW_STRING, UNKNOWN_ESCAPE, UNKNOWN_TOKEN,
-};
-
-// The number of errors after one was added, or the number of the refusal.
-#[derive(Clone, Copy)]
-pub enum Added {
-    Count(usize),
-    Refused(u8),
-}
-
-// The error asked for, nothing where the list has none there, or the number of the refusal.
-#[derive(Clone, Copy)]
-pub enum Got {
-    Found(Error),
-    Nothing,
-    Refused(u8),
-}
 
 // How many records a list holds.
 pub fn room(list: &[usize]) -> usize
@@ -37,31 +21,31 @@ pub fn room(list: &[usize]) -> usize
     list.len() / layout::WIDTH
 }
 
-// Adds an error after the first `count`.
-pub fn add(list: &mut [usize], count: usize, error: Error) -> Added
-    ensures { record { list = list.new; outcome = add_outcome result } ≡ add_to list.old count error }
+// Adds an error after the first `count`, and gives how many there are then.
+pub fn add(list: &mut [usize], count: usize, error: Error) -> Result<usize, Refusal>
+    ensures { record { list = list.new; outcome = outcome_of result } ≡ add_to list.old count error }
 {
     let most = room(list);
     if count > most {
-        return Added::Refused(refusal::DOES_NOT_FIT);
+        return Err(Refusal::DoesNotFit);
     }
     if count == most {
-        return Added::Refused(refusal::LIST_FULL);
+        return Err(Refusal::ListFull);
     }
     layout::write(list, count * layout::WIDTH, error);
-    let errors = count + 1;
-    Added::Count(errors)
+    Ok(count + 1)
 }
 
-// The error at an index, from 0, of a list of `count` errors.
-pub fn get(list: &[usize], count: usize, index: usize) -> Got
+// The error at an index, from 0, of a list of `count` errors; nothing where the list has none
+// there.
+pub fn get(list: &[usize], count: usize, index: usize) -> Result<Option<Error>, Refusal>
     ensures { got result ≡ get_of list.now count index }
 {
     if count > room(list) {
-        return Got::Refused(refusal::DOES_NOT_FIT);
+        return Err(Refusal::DoesNotFit);
     }
     if index >= count {
-        return Got::Nothing;
+        return Ok(None);
     }
-    Got::Found(layout::read(list, index * layout::WIDTH))
+    Ok(Some(layout::read(list, index * layout::WIDTH)))
 }

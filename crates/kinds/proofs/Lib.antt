@@ -1,3 +1,3 @@
 pub mod Ranges
 pub mod Table
-pub mod Padding
+pub mod Tags

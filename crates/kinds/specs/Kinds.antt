@@ -1,4 +1,4 @@
--- The numbers of the kinds, under the names of the code's constants.
+-- The numbers of the kinds, under the names of Go's package `token`.
 use Rattle.std.specs.Prelude.{ℕ}
 
 abbrev pub NONE : ℕ

@@ -1,4 +1,4 @@
 pub mod Kinds
 pub mod Table
 pub mod Precedence
-pub mod Names
+pub mod Number

@@ -1,128 +1,108 @@
 // The names of the kinds.
-ghost use Rattle.std.specs.Prelude.{◌≡◌, ◌<◌, length, get_or};
-ghost use Rattle.kinds.specs.Table.{table, name_of};
-ghost use Rattle.kinds.specs.Names.{padded};
+ghost use Rattle.std.specs.Prelude.{◌≡◌};
+ghost use Rattle.kinds.specs.Number.{kind_number};
+ghost use Rattle.kinds.specs.Table.{name_of};
 
-use crate::*;
+use crate::Kind;
 
-// A name: its first `len` bytes; the other bytes are zero.
-#[derive(Clone, Copy)]
-pub struct Padded {
-    pub bytes: [u8; 11],
-    pub len: usize,
-}
-
-// The name of each kind, with spaces up to eleven bytes.
-const NAMES: [u8; KINDS as usize * 11] = *b"\
-    NONE       \
-    ILLEGAL    \
-    EOF        \
-    COMMENT    \
-    IDENT      \
-    INT        \
-    FLOAT      \
-    IMAG       \
-    CHAR       \
-    STRING     \
-    +          \
-    -          \
-    *          \
-    /          \
-    %          \
-    &          \
-    |          \
-    ^          \
-    <<         \
-    >>         \
-    &^         \
-    +=         \
-    -=         \
-    *=         \
-    /=         \
-    %=         \
-    &=         \
-    |=         \
-    ^=         \
-    <<=        \
-    >>=        \
-    &^=        \
-    &&         \
-    ||         \
-    <-         \
-    ++         \
-    --         \
-    ==         \
-    <          \
-    >          \
-    =          \
-    !          \
-    !=         \
-    <=         \
-    >=         \
-    :=         \
-    ...        \
-    (          \
-    [          \
-    {          \
-    ,          \
-    .          \
-    )          \
-    ]          \
-    }          \
-    ;          \
-    :          \
-    break      \
-    case       \
-    chan       \
-    const      \
-    continue   \
-    default    \
-    defer      \
-    else       \
-    fallthrough\
-    for        \
-    func       \
-    go         \
-    goto       \
-    if         \
-    import     \
-    interface  \
-    map        \
-    package    \
-    range      \
-    return     \
-    select     \
-    struct     \
-    switch     \
-    type       \
-    var        \
-    ";
-
-// A byte of a name; past its end, a space.
-fn byte_of(kind: usize, i: usize) -> u8
-    requires { (kind < length table) × (i < 11) }
-    ensures { result ≡ get_or (name_of kind) i 0x20 }
-{
-    NAMES[kind * 11 + i]
-}
-
-// The name of a kind; of a number that is no kind, the empty one.
-#[tactic(auto, using(crate::proofs::Padding::ended))]
-pub fn name(kind: u8) -> Padded
-    ensures { result ≡ padded (name_of kind) }
-{
-    let mut bytes = [0; 11];
-    let mut len = 0;
-    if KINDS <= kind {
-        return Padded { bytes, len };
-    }
-    while len < 11 {
-        let byte = byte_of(kind as usize, len);
-        if byte == b' ' {
-            return Padded { bytes, len };
+impl Kind {
+    // The name of a kind.
+    pub fn name(self) -> &'static str
+        ensures { result.now ≡ name_of (kind_number self) }
+    {
+        match self {
+            Kind::None => "NONE",
+            Kind::Illegal => "ILLEGAL",
+            Kind::Eof => "EOF",
+            Kind::Comment => "COMMENT",
+            Kind::Ident => "IDENT",
+            Kind::Int => "INT",
+            Kind::Float => "FLOAT",
+            Kind::Imag => "IMAG",
+            Kind::Char => "CHAR",
+            Kind::String => "STRING",
+            Kind::Add => "+",
+            Kind::Sub => "-",
+            Kind::Mul => "*",
+            Kind::Quo => "/",
+            Kind::Rem => "%",
+            Kind::And => "&",
+            Kind::Or => "|",
+            Kind::Xor => "^",
+            Kind::Shl => "<<",
+            Kind::Shr => ">>",
+            Kind::AndNot => "&^",
+            Kind::AddAssign => "+=",
+            Kind::SubAssign => "-=",
+            Kind::MulAssign => "*=",
+            Kind::QuoAssign => "/=",
+            Kind::RemAssign => "%=",
+            Kind::AndAssign => "&=",
+            Kind::OrAssign => "|=",
+            Kind::XorAssign => "^=",
+            Kind::ShlAssign => "<<=",
+            Kind::ShrAssign => ">>=",
+            Kind::AndNotAssign => "&^=",
+            Kind::Land => "&&",
+            Kind::Lor => "||",
+            Kind::Arrow => "<-",
+            Kind::Inc => "++",
+            Kind::Dec => "--",
+            Kind::Eql => "==",
+            Kind::Lss => "<",
+            Kind::Gtr => ">",
+            Kind::Assign => "=",
+            Kind::Not => "!",
+            Kind::Neq => "!=",
+            Kind::Leq => "<=",
+            Kind::Geq => ">=",
+            Kind::Define => ":=",
+            Kind::Ellipsis => "...",
+            Kind::Lparen => "(",
+            Kind::Lbrack => "[",
+            Kind::Lbrace => "{",
+            Kind::Comma => ",",
+            Kind::Period => ".",
+            Kind::Rparen => ")",
+            Kind::Rbrack => "]",
+            Kind::Rbrace => "}",
+            Kind::Semicolon => ";",
+            Kind::Colon => ":",
+            Kind::Break => "break",
+            Kind::Case => "case",
+            Kind::Chan => "chan",
+            Kind::Const => "const",
+            Kind::Continue => "continue",
+            Kind::Default => "default",
+            Kind::Defer => "defer",
+            Kind::Else => "else",
+            Kind::Fallthrough => "fallthrough",
+            Kind::For => "for",
+            Kind::Func => "func",
+            Kind::Go => "go",
+            Kind::Goto => "goto",
+            Kind::If => "if",
+            Kind::Import => "import",
+            Kind::Interface => "interface",
+            Kind::Map => "map",
+            Kind::Package => "package",
+            Kind::Range => "range",
+            Kind::Return => "return",
+            Kind::Select => "select",
+            Kind::Struct => "struct",
+            Kind::Switch => "switch",
+            Kind::Type => "type",
+            Kind::Var => "var",
         }
-        bytes[len] = byte;
-        len += 1;
     }
-    Padded { bytes, len }
+}
+
+// The name of the kind with a number; of a number that is no kind, the empty one.
+pub fn name(kind: u8) -> &'static str
+    ensures { result.now ≡ name_of kind }
+{
+    match Kind::try_from(kind) {
+        Ok(kind) => kind.name(),
+        Err(_) => "",
+    }
 }

@@ -1,5 +1,6 @@
 // A thin reader: it holds the source and a place in it, and gives the next character. The functions
-// over the struct are thin; the work is done by functions that take the source itself.
+// over the struct are thin; the work is done by functions that take the source itself. They are
+// functions and no methods: docs/PROVED.md promises each of them by its name.
 #![tactic(auto)]
 
 ghost use Rattle.std.specs.Prelude.{◌≡◌};

@@ -1,4 +1,4 @@
--- The numbers of the refusals, under the names of the code's constants.
+-- The numbers of the refusals, under the names that the documents give them.
 use Rattle.std.specs.Prelude.{ℕ}
 
 -- ---- from the input

@@ -10,7 +10,7 @@ use lib.Dec.{T, ltb, lit<, leb→le}
 use native.Mathlib.Decide.{dec_le}
 use lib.ListN.{length, take, drop, get_or, length-drop, drop_of_length-le}
 use lib.Pow.{pow-add, pow_mono, pow_pos, are_bytes}
-use lib.Seq.{take-nil, take-take, get_or-drop, drop-drop}
+use lib.Seq.{take-nil, take-take, get_or-drop}
 use Rattle.basics.proofs.Choice.{and_left, and_right}
 use Rattle.swar.specs.Number.{number_of}
 
@@ -60,24 +60,15 @@ number_last s at i h l m = elim (dec_le at (length s)) [ yes k ↦ there k | no 
     past : (at ≤ length s → ⊥) → number_of (drop i s) ≡ number_of (drop at s)
     past k = rw (drop_of_length-le s {i = i} (omega arith), drop_of_length-le s {i = at} (omega arith))
 
-first_four : (s : List ℕ) → number_of (take 4 s) ≡ get_or s 0 0 + get_or s 1 0 * 0x100 + get_or s 2 0 * 0x1_0000 + get_or s 3 0 * 0x100_0000
+first_eight : (s : List ℕ) → number_of (take 8 s) ≡ get_or s 0 0 + get_or s 1 0 * 0x100 + get_or s 2 0 * 0x1_0000 + get_or s 3 0 * 0x100_0000 + get_or s 4 0 * 0x1_0000_0000 + get_or s 5 0 * 0x100_0000_0000 + get_or s 6 0 * 0x1_0000_0000_0000 + get_or s 7 0 * 0x100_0000_0000_0000
 unfolding number_of
-first_four s = omega (arith, number_next s 0 3, number_next s 1 2, number_next s 2 1, number_next s 3 0)
+first_eight s = omega (arith, number_next s 0 7, number_next s 1 6, number_next s 2 5, number_next s 3 4, number_next s 4 3, number_next s 5 2, number_next s 6 1, number_next s 7 0)
 
-pub number_four : (s : List ℕ) (p : ℕ) → number_of (take 4 (drop p s)) ≡ get_or s p 0 + get_or s (p + 1) 0 * 0x100 + get_or s (p + 2) 0 * 0x1_0000 + get_or s (p + 3) 0 * 0x100_0000
-number_four s p =
+-- eight bytes in their places
+pub number_eight : (s : List ℕ) (p : ℕ) → number_of (take 8 (drop p s)) ≡ get_or s p 0 + get_or s (p + 1) 0 * 0x100 + get_or s (p + 2) 0 * 0x1_0000 + get_or s (p + 3) 0 * 0x100_0000 + get_or s (p + 4) 0 * 0x1_0000_0000 + get_or s (p + 5) 0 * 0x100_0000_0000 + get_or s (p + 6) 0 * 0x1_0000_0000_0000 + get_or s (p + 7) 0 * 0x100_0000_0000_0000
+number_eight s p =
     let byte : (k : ℕ) → get_or (drop p s) k 0 ≡ get_or s (p + k) 0 = λ k. get_or-drop p s k 0 in
-    rw (byte 0, byte 1, byte 2, byte 3, add-zero p) at (first_four (drop p s))
-
--- eight bytes are two times four
-first_eight : (s : List ℕ) → number_of (take 8 s) ≡ number_of (take 4 s) + number_of (take 4 (drop 4 s)) * 0x1_0000_0000
-first_eight s = omega (arith, number_next s 0 7, number_next s 1 6, number_next s 2 5, number_next s 3 4, first_four s)
-
-pub number_eight : (s : List ℕ) (p : ℕ) → number_of (take 8 (drop p s)) ≡ number_of (take 4 (drop p s)) + number_of (take 4 (drop (p + 4) s)) * 0x1_0000_0000
-number_eight s p = rw (drop-drop 4 p s) at (first_eight (drop p s))
-
-pub four_fits : (s : List ℕ) (p : ℕ) → Bytes s → number_of (take 4 (drop p s)) < 0x1_0000_0000
-four_fits s p h = omega (arith, number_four s p, h p, h (p + 1), h (p + 2), h (p + 3))
+    rw (byte 0, byte 1, byte 2, byte 3, byte 4, byte 5, byte 6, byte 7, add-zero p) at (first_eight (drop p s))
 
 pub byte_more : (n : ℕ) → 2 ^ (8 * suc n) ≡ 2 ^ (8 * n) * 256
 byte_more n = let e : 8 * suc n ≡ 8 * n + 8 = omega arith in rw e (pow-add 2 (8 * n) 8)

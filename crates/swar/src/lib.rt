@@ -4,22 +4,8 @@
 ghost use Rattle.std.specs.Prelude.{◌≡◌, ◌+◌, ◌*◌, ◌≤◌, leb, length, take, drop};
 ghost use Rattle.swar.specs.Number.{number_of};
 
-// The number that four bytes are.
-fn number_of(a: u8, b: u8, c: u8, d: u8) -> u64
-    ensures { result ≡ a + b * 0x100 + c * 0x1_0000 + d * 0x100_0000 }
-{
-    a as u64 + b as u64 * 0x100 + c as u64 * 0x1_0000 + d as u64 * 0x100_0000
-}
-
-// The number that the four bytes at a place are.
-fn four(s: &[u8], at: usize) -> u64
-    requires { at + 4 ≤ length s.now }
-    ensures { result ≡ number_of (take 4 (drop at s.now)) }
-{
-    number_of(s[at], s[at + 1], s[at + 2], s[at + 3])
-}
-
-// The number that the bytes from a place on are, where they are at most eight.
+// The number that the bytes from a place on are, where they are at most eight. An index loop: it
+// goes down from the end to a place that may lie past it, and no slice begins there.
 fn last_bytes(s: &[u8], at: usize) -> u64
     requires { length s.now ≤ at + 8 }
     ensures { result ≡ number_of (drop at s.now) }
@@ -49,9 +35,16 @@ fn load(s: &[u8], at: usize) -> u64
     requires { at + 8 ≤ length s.now }
     ensures { result ≡ number_of (take 8 (drop at s.now)) }
 {
-    let low = four(s, at);
-    let high = four(s, at + 4);
-    low + high * 0x1_0000_0000
+    u64::from_le_bytes([
+        s[at],
+        s[at + 1],
+        s[at + 2],
+        s[at + 3],
+        s[at + 4],
+        s[at + 5],
+        s[at + 6],
+        s[at + 7],
+    ])
 }
 
 // The number that the eight bytes at a place are; where there are fewer, the number of those.

@@ -12,16 +12,15 @@ use crate::Char;
 pub fn sequence_len(b: u8) -> usize
     ensures { result ≡ announced b }
 {
-    let ones = u8::leading_zeros(!b);
-    if ones == 0 {
-        return 1;
+    match u8::leading_zeros(!b) {
+        0 => 1,
+        ones @ 2..=4 => ones as usize,
+        _ => 0,
     }
-    if ones == 1 {
-        return 0;
-    }
-    if ones < 5 { ones as usize } else { 0 }
 }
 
+// Whether a byte is between two others. (Its ends are computed for a second byte, so no pattern
+// fits.)
 fn within(lo: u8, b: u8, hi: u8) -> bool
     ensures { result ≡ between lo b hi }
 {
@@ -32,10 +31,10 @@ fn within(lo: u8, b: u8, hi: u8) -> bool
 pub fn byte(s: &[u8], at: usize) -> u8
     ensures { result ≡ get_or s.now at 0 }
 {
-    if at < s.len() { s[at] } else { 0 }
+    s.get(at).copied().unwrap_or(0)
 }
 
-// n where t holds, else 0.
+// n where t holds, else 0. (A function of its own keeps the branches of its callers few.)
 fn choose(t: bool, n: usize) -> usize
     ensures { result ≡ cond t n 0 }
 {
@@ -50,23 +49,27 @@ fn follows(b: u8) -> bool
 }
 
 // The least second byte after the first byte a.
+#[tactic(auto, unfolding(crate::specs::Steps::low))]
 fn low_of(a: u8) -> u8
     ensures { result ≡ low a }
 {
-    if a == 0xE0 {
-        return 0xA0;
+    match a {
+        0xE0 => 0xA0,
+        0xF0 => 0x90,
+        _ => 0x80,
     }
-    if a == 0xF0 { 0x90 } else { 0x80 }
 }
 
 // The greatest second byte after the first byte a.
+#[tactic(auto, unfolding(crate::specs::Steps::high))]
 fn high_of(a: u8) -> u8
     ensures { result ≡ high a }
 {
-    if a == 0xED {
-        return 0x9F;
+    match a {
+        0xED => 0x9F,
+        0xF4 => 0x8F,
+        _ => 0xBF,
     }
-    if a == 0xF4 { 0x8F } else { 0xBF }
 }
 
 // May b come after the first byte a?
@@ -103,16 +106,12 @@ fn sequence_of(a: u8, b: u8, c: u8, d: u8) -> usize
 fn code_of(n: usize, a: u8, b: u8, c: u8, d: u8) -> u32
     ensures { result ≡ code_of n a b c d }
 {
-    if n == 1 {
-        return a as u32;
+    match n {
+        1 => a as u32,
+        2 => a as u32 % 32 * 64 + b as u32 % 64,
+        3 => a as u32 % 16 * 4096 + b as u32 % 64 * 64 + c as u32 % 64,
+        _ => a as u32 % 8 * 262144 + b as u32 % 64 * 4096 + c as u32 % 64 * 64 + d as u32 % 64,
     }
-    if n == 2 {
-        return a as u32 % 32 * 64 + b as u32 % 64;
-    }
-    if n == 3 {
-        return a as u32 % 16 * 4096 + b as u32 % 64 * 64 + c as u32 % 64;
-    }
-    a as u32 % 8 * 262144 + b as u32 % 64 * 4096 + c as u32 % 64 * 64 + d as u32 % 64
 }
 
 // The character that four bytes begin with.

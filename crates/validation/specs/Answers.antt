@@ -1,10 +1,9 @@
 -- What the check of a text comes to.
-use Rattle.std.specs.Prelude.{ℕ, cond, List, length}
+use Rattle.std.specs.Prelude.{ℕ, cond, List, length, Result, Ok, Err}
 use Rattle.std.proofs.Math.Option.{Option, none, some}
 use Rattle.refusal.specs.Outcome.{Outcome, refused, gave}
 use Rattle.refusal.specs.Refusals.{NOT_UTF8}
-use Rattle.validation.specs.declared.Checked.{Checked}
-use Rattle.validation.specs.declared.Checked.TheVariants.{Valid, Bad}
+use Rattle.validation.specs.declared.NotUtf8.{NotUtf8}
 use Rattle.utf8.specs.Chars.{chars, well_formed, bytes_before}
 
 -- the number of characters or the refusal, and the place that the refusal carries
@@ -19,9 +18,9 @@ abbrev pub not_utf8 : ℕ → Checking
 not_utf8 place = record { outcome = refused NOT_UTF8; place = some place }
 
 -- what each answer says
-abbrev pub checking_of : Checked → Checking
-checking_of (Valid count) = valid count
-checking_of (Bad place) = not_utf8 place
+abbrev pub checking_of : Result ℕ NotUtf8 → Checking
+checking_of (Ok count) = valid count
+checking_of (Err bad) = not_utf8 bad.place
 
 -- of a well-formed text the number of its characters, of any other the place of the first byte that
 -- belongs to no well-formed character

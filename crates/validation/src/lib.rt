@@ -6,22 +6,22 @@ mod ascii;
 ghost use Rattle.std.specs.Prelude.{◌≡◌};
 ghost use Rattle.validation.specs.Answers.{checking_of, checked_of};
 
-// A text that was checked: how many characters it has, or the place of a byte that belongs to no
-// well-formed character.
-#[derive(Clone, Copy)]
-pub enum Checked {
-    Valid(usize),
-    Bad(usize),
+// A text that is not UTF-8: the place of a byte that belongs to no well-formed character.
+#[derive(Clone, Copy, PartialEq, Eq)]
+pub struct NotUtf8 {
+    pub place: usize,
 }
 
-// Checks a text: blocks of ASCII at once, and what lies between them character by character.
-pub fn check(s: &[u8]) -> Checked
+// The number of characters of a text: blocks of ASCII are counted at once, and what lies between
+// them character by character.
+pub fn check(s: &[u8]) -> Result<usize, NotUtf8>
     ensures { checking_of result ≡ checked_of s.now }
 {
     let mut at = 0;
     let mut count = 0;
     // up to here no block of ASCII starts
     let mut tried = 0;
+    // A step goes over one character, or over 32 bytes, so no `for` fits.
     while at < s.len() {
         if tried <= at {
             if ascii::is_block(s, at) {
@@ -33,10 +33,10 @@ pub fn check(s: &[u8]) -> Checked
         }
         let c = utf8::char_at(s, at);
         if utf8::is_stray(c) {
-            return Checked::Bad(at);
+            return Err(NotUtf8 { place: at });
         }
         at += c.width;
         count += 1;
     }
-    Checked::Valid(count)
+    Ok(count)
 }

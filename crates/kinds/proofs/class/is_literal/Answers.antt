@@ -13,4 +13,7 @@ unfolding row_of table specials operators keywords
 range k h = same_tests is_literal (λ m. between IDENT m STRING) tt k h
 
 pub returns : goal.returns
-returns c = c.is_between.ensures ∙ sym (range _ (search rules))
+returns c =
+    let e = rw (c.new.ensures.start, c.new.ensures.end, c.new.ensures.exhausted) at c.contains.ensures.value in
+    let d : c.contains.result ≡ between IDENT c.args.kind STRING = search rules in
+    d ∙ sym (range _ (search rules))

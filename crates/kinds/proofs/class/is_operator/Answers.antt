@@ -13,4 +13,7 @@ unfolding row_of table specials operators keywords
 range k h = same_tests is_operator (λ m. between ADD m COLON) tt k h
 
 pub returns : goal.returns
-returns c = c.is_between.ensures ∙ sym (range _ (search rules))
+returns c =
+    let e = rw (c.new.ensures.start, c.new.ensures.end, c.new.ensures.exhausted) at c.contains.ensures.value in
+    let d : c.contains.result ≡ between ADD c.args.kind COLON = search rules in
+    d ∙ sym (range _ (search rules))
