@@ -16,20 +16,16 @@ pub struct Skipped {
 }
 
 // Is a byte a space, a tab or a CR?
+#[tactic(auto, unfolding(crate::specs::Blank::is_space))]
 pub fn is_space(b: u8) -> bool
     ensures { result ≡ is_space b }
 {
-    if b == b' ' {
-        return true;
-    }
-    if b == b'\t' {
-        return true;
-    }
-    b == b'\r'
+    matches!(b, b' ' | b'\t' | b'\r')
 }
 
 // Skips blanks byte by byte. The bits of a number tell which bytes up to a space are blanks: 9 and
-// 13 (tab, CR), 32 (space), and 10 (LF).
+// 13 (tab, CR), 32 (space), and 10 (LF). An index loop: the place where it stops is the answer,
+// also where the text ends or the start lies past it, so a `for` is no plainer.
 fn skip_bytes(src: &[u8], at: usize, mark: bool) -> Skipped
     ensures { result ≡ skipped_at at (skip mark (chars (drop at src.now))) }
 {

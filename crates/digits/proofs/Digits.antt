@@ -13,6 +13,9 @@ use Rattle.basics.proofs.Every.{every_below}
 use Rattle.utf8.specs.Chars.{first_char}
 use Rattle.utf8.proofs.Places.{test_there}
 use Rattle.digits.specs.Digit.{digit_val}
+use Rattle.digits.specs.declared.Base.{Base}
+use Rattle.digits.specs.declared.Base.TheVariants.{Binary, Octal, Decimal, Hexadecimal}
+use Rattle.digits.specs.Base.{base_number}
 
 -- the same number by the bounds of the ranges, in their order
 abbrev pub by_bounds : ℕ → ℕ
@@ -89,3 +92,10 @@ digit_low c l = elim (dec_lt c 0x80) [ yes k ↦ k | no k ↦ absurd (omega (ari
 -- the digit at a place may be read off the byte there
 pub digit_there : (s : List ℕ) (p : ℕ) → p < length s → digit_val (first_char (drop p s)).code ≡ digit_val (get_or s p 0)
 digit_there s p h = test_there s p digit_val digit_high h
+
+-- ---- the bases
+pub base_most : (b : Base) → base_number b ≤ 16
+base_most Binary = omega arith
+base_most Octal = omega arith
+base_most Decimal = omega arith
+base_most Hexadecimal = omega arith

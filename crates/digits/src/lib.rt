@@ -1,4 +1,4 @@
-// Digits.
+// Digits, and the bases of numbers.
 #![tactic(auto)]
 
 ghost use Rattle.std.specs.Prelude.{◌≡◌};
@@ -9,26 +9,25 @@ ghost use Rattle.digits.specs.Digit.{digit_val, is_decimal};
 pub fn digit_val(b: u8) -> u8
     ensures { result ≡ digit_val b }
 {
-    if b < b'0' {
-        return 16;
+    match b {
+        b'0'..=b'9' => b - b'0',
+        b'A'..=b'F' => b - b'A' + 10,
+        b'a'..=b'f' => b - b'a' + 10,
+        _ => 16,
     }
-    if b <= b'9' {
-        return b - b'0';
-    }
-    if b < b'A' {
-        return 16;
-    }
-    if b <= b'F' {
-        return b - b'A' + 10;
-    }
-    if b < b'a' {
-        return 16;
-    }
-    if b <= b'f' { b - b'a' + 10 } else { 16 }
+}
+
+// The base of a number, `base as u8`.
+#[derive(Clone, Copy, PartialEq, Eq)]
+pub enum Base {
+    Binary = 2,
+    Octal = 8,
+    Decimal = 10,
+    Hexadecimal = 16,
 }
 
 pub fn is_decimal(b: u8) -> bool
     ensures { result ≡ is_decimal b }
 {
-    b'0' <= b && b <= b'9'
+    b.is_ascii_digit()
 }

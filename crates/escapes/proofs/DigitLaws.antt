@@ -5,7 +5,7 @@ use mathlib.Core.List.{List, [], ◌∷◌}
 use native.Mathlib.Omega.{arith}
 use native.Mathlib.Numerals.{add-one}
 use native.Mathlib.Nat.{add-zero, zero-add, pow-suc, pow-le-pow_right, mul-le-mul, suc-mul}
-use lib.Dec.{ltb}
+use lib.Dec.{ltb, lit≤}
 use lib.ListN.{length, get_or, drop}
 use borrow.Author.Tests.{lt-ltb, le-ltb}
 use Rattle.basics.proofs.Choice.{cond_ind}
@@ -13,26 +13,34 @@ use Rattle.utf8.specs.declared.Char.{Char}
 use Rattle.utf8.specs.Chars.{chars}
 use Rattle.utf8.proofs.First.{chars_at, chars_end, chars_ascii}
 use Rattle.errors.specs.Numbers.{CUT_ESCAPE, BAD_ESCAPE}
+use Rattle.digits.specs.declared.Base.{Base}
+use Rattle.digits.specs.declared.Base.TheVariants.{Binary, Octal, Decimal, Hexadecimal}
+use Rattle.digits.specs.Base.{base_number}
 use Rattle.digits.specs.Digit.{digit_val}
 use Rattle.digits.proofs.Digits.{digit_low, digit_there}
-use Rattle.escapes.specs.declared.escape_digits.EscapeDigits.{EscapeDigits}
-use Rattle.escapes.specs.EscapeDigits.{no_more_digits, one_digit_more, escape_digits}
+use Rattle.escapes.specs.EscapeDigits.{Digits, no_more_digits, one_digit_more, escape_digits}
+
+pub base_most : (b : Base) → base_number b ≤ 16
+base_most Binary = lit≤ tt
+base_most Octal = lit≤ tt
+base_most Decimal = lit≤ tt
+base_most Hexadecimal = lit≤ tt
 
 -- n digits before
-abbrev pub grown : ℕ → EscapeDigits → EscapeDigits
+abbrev pub grown : ℕ → Digits → Digits
 grown n d = record { value = d.value; len = n + d.len; error = d.error }
 
-grown_none : (d : EscapeDigits) → d ≡ grown 0 d
+grown_none : (d : Digits) → d ≡ grown 0 d
 grown_none d = rw (zero-add d.len)
 
-pub grown_more : (n : ℕ) (d : EscapeDigits) → grown n (one_digit_more d) ≡ grown (n + 1) d
+pub grown_more : (n : ℕ) (d : Digits) → grown n (one_digit_more d) ≡ grown (n + 1) d
 grown_more n d = let e : n + suc d.len ≡ n + 1 + d.len = omega arith in rw e
 
 pub grown_stop : (n v e : ℕ) → grown n (no_more_digits v e) ≡ record { value = v; len = n; error = e }
 grown_stop n v e = rw (add-zero n)
 
 -- the digits that are left after the first so many of them
-abbrev pub left_of : ℕ → ℕ → List ℕ → ℕ → ℕ → ℕ → EscapeDigits
+abbrev pub left_of : ℕ → ℕ → List ℕ → ℕ → ℕ → ℕ → Digits
 left_of base count s at len v = escape_digits base (count - len) v (chars (drop (at + len) s))
 
 pub none_read : (base count : ℕ) (s : List ℕ) (at : ℕ) → escape_digits base count 0 (chars (drop at s)) ≡ grown 0 (left_of base count s at 0 0)
@@ -72,7 +80,7 @@ unfolding escape_digits
 digits_len base zero v r = omega arith
 digits_len base (suc n) v [] = omega arith
 digits_len base (suc n) v (c ∷ r) =
-    cond_ind (λ (x : EscapeDigits). x.len ≤ suc n) (ltb (digit_val c.code) base) _ _
+    cond_ind (λ (x : Digits). x.len ≤ suc n) (ltb (digit_val c.code) base) _ _
     (λ _. suc-le-suc (digits_len base n (v * base + digit_val c.code) r)) (λ _. omega arith)
 
 -- ---- eight hexadecimal digits fit 32 bits

@@ -14,9 +14,8 @@ use Rattle.utf8.specs.declared.Char.{Char}
 use Rattle.utf8.specs.Chars.{ended, chars, widths}
 use Rattle.utf8.proofs.Places.{ascii_widths, place_chars}
 use Rattle.digits.specs.Digit.{digit_val}
-use Rattle.escapes.specs.declared.escape_digits.EscapeDigits.{EscapeDigits}
 use Rattle.escapes.specs.Answers.{Escape}
-use Rattle.escapes.specs.EscapeDigits.{escape_digits}
+use Rattle.escapes.specs.EscapeDigits.{Digits, escape_digits}
 use Rattle.escapes.specs.Escape.{letter, following, octal_escape, hex_escape, escape_of}
 use Rattle.escapes.proofs.EscapeLaws.{Out, letter_out, following_out}
 
@@ -64,7 +63,7 @@ module _ (P : ℕ → Type 0) (inside : (c : ℕ) → 48 ≤ c → c ≤ 122 →
   digits_heads base (suc n) v [] l = tt
   digits_heads base (suc n) v (c ∷ r) l =
       let ih = digits_heads base n (v * base + digit_val c.code) r l in
-      cond_ind (λ (x : EscapeDigits). Heads P x.len (c ∷ r)) (ltb (digit_val c.code) base) _ _
+      cond_ind (λ (x : Digits). Heads P x.len (c ∷ r)) (ltb (digit_val c.code) base) _ _
       (λ d. let g = digit_in c.code (omega (arith, ltb-true (digit_val c.code) base d)) in (inside c.code g.0 g.1, ih)) (λ _. tt)
 
   hex_heads : (c : Char) (r : List Char) → Heads P (hex_escape c.code r).len (c ∷ r)

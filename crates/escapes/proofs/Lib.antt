@@ -5,3 +5,5 @@ pub mod Local
 pub mod Meanings
 pub mod Sizes
 pub mod Shorter
+pub mod Faults
+pub mod Steps

@@ -12,20 +12,19 @@ use Rattle.basics.proofs.Choice.{cond_ind}
 use Rattle.utf8.specs.declared.Char.{Char}
 use Rattle.utf8.specs.Chars.{is_scalar}
 use Rattle.digits.specs.Digit.{digit_val}
-use Rattle.escapes.specs.declared.escape_digits.EscapeDigits.{EscapeDigits}
 use Rattle.escapes.specs.Answers.{Meaning, character, no_character, Escape}
-use Rattle.escapes.specs.EscapeDigits.{escape_digits}
+use Rattle.escapes.specs.EscapeDigits.{Digits, escape_digits}
 use Rattle.escapes.specs.Escape.{letter, following, byte_of, code_point_of, octal_escape, hex_escape, escape_of}
 
 module _ (P : Meaning → Type 0) (char : (c : ℕ) → P (character c false)) (byte : (c : ℕ) → c ≤ 255 → P (character c true)) (bad : (error : ℕ) → error ≢ 0 → P (no_character error)) where
-  byte_ind : (n : EscapeDigits) → P (byte_of n)
+  byte_ind : (n : Digits) → P (byte_of n)
   unfolding byte_of
   byte_ind n =
       cond_ind P (eqb n.error 0) _ _
       (λ _. cond_ind P (ltb 255 n.value) _ _ (λ _. bad _ (λ e. omega arith)) (λ e. byte n.value (ltb-false 255 n.value e)))
       (λ e. bad n.error (eqb-false n.error 0 e))
 
-  code_ind : (n : EscapeDigits) → P (code_point_of n)
+  code_ind : (n : Digits) → P (code_point_of n)
   unfolding code_point_of
   code_ind n =
       cond_ind P (eqb n.error 0) _ _

@@ -11,9 +11,8 @@ use Rattle.basics.proofs.Choice.{cond_ind, true_of}
 use Rattle.utf8.specs.declared.Char.{Char}
 use Rattle.utf8.specs.Chars.{octets, is_scalar, encode}
 use Rattle.digits.specs.Digit.{digit_val}
-use Rattle.escapes.specs.declared.escape_digits.EscapeDigits.{EscapeDigits}
 use Rattle.escapes.specs.Answers.{Meaning, Escape, bytes_of}
-use Rattle.escapes.specs.EscapeDigits.{escape_digits}
+use Rattle.escapes.specs.EscapeDigits.{Digits, escape_digits}
 use Rattle.escapes.specs.Escape.{letters, letter, following, code_point_of, octal_escape, hex_escape, escape_of}
 use Rattle.escapes.proofs.Sizes.{encode_most, byte_most}
 use Rattle.escapes.proofs.EscapeLaws.{entry_ind}
@@ -24,7 +23,7 @@ unfolding escape_digits
 digits_whole base r zero v = λ h. refl
 digits_whole base [] (suc n) v = λ h. absurd (omega arith)
 digits_whole base (c ∷ r) (suc n) v =
-    cond_ind (λ (x : EscapeDigits). x.error ≡ 0 → x.len ≡ suc n) (ltb (digit_val c.code) base) _ _
+    cond_ind (λ (x : Digits). x.error ≡ 0 → x.len ≡ suc n) (ltb (digit_val c.code) base) _ _
     (λ _ h. ap suc (digits_whole base r n (v * base + digit_val c.code) h)) (λ _ h. absurd (omega arith))
 
 -- u and U are followed by four digits or more
@@ -49,7 +48,7 @@ letter_low c = entry_ind (λ row. ltb row.1 0x80) (λ n. n < 0x80) c (lit< tt) (
 abbrev Shorter : Escape → Type 0
 Shorter x = length (bytes_of x.meaning) ≤ x.len
 
-code_short : (n : EscapeDigits) (m : ℕ) → (n.error ≡ 0 → 4 ≤ m) → length (bytes_of (code_point_of n)) ≤ m
+code_short : (n : Digits) (m : ℕ) → (n.error ≡ 0 → 4 ≤ m) → length (bytes_of (code_point_of n)) ≤ m
 unfolding code_point_of
 code_short n m f =
     cond_ind (λ (g : Meaning). length (bytes_of g) ≤ m) (eqb n.error 0) _ _

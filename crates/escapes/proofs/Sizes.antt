@@ -10,9 +10,8 @@ use Rattle.basics.proofs.Choice.{cond_ind}
 use Rattle.utf8.specs.declared.Char.{Char}
 use Rattle.utf8.specs.Chars.{octets, is_scalar, encode}
 use Rattle.digits.specs.Digit.{digit_val}
-use Rattle.escapes.specs.declared.escape_digits.EscapeDigits.{EscapeDigits}
 use Rattle.escapes.specs.Answers.{Meaning, character, no_character, Escape, bytes_of}
-use Rattle.escapes.specs.EscapeDigits.{escape_digits}
+use Rattle.escapes.specs.EscapeDigits.{Digits, escape_digits}
 use Rattle.escapes.specs.Escape.{letter, following, byte_of, code_point_of, octal_escape, hex_escape, escape_of}
 
 -- ---- what an escape gives is at most twice as long as the escape with its backslash
@@ -38,7 +37,7 @@ given_most (character code true) = lit≤ tt
 given_most (character code false) = encode_most code
 given_most (no_character error) = lit≤ tt
 
-pub byte_most : (n : EscapeDigits) → length (bytes_of (byte_of n)) ≤ 1
+pub byte_most : (n : Digits) → length (bytes_of (byte_of n)) ≤ 1
 unfolding byte_of
 byte_most n =
     cond_ind One (eqb n.error 0) _ _ (λ _. cond_ind One (ltb 255 n.value) _ _ (λ _. lit≤ tt) (λ _. lit≤ tt)) (λ _. lit≤ tt)

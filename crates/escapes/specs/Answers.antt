@@ -1,8 +1,9 @@
 -- What the answer of an escape comes to.
-use Rattle.std.specs.Prelude.{ℕ, Bool, cond, List, [], ◌∷◌}
+use Rattle.std.specs.Prelude.{ℕ, Bool, cond, List, [], ◌∷◌, Result, Ok, Err}
 use Rattle.utf8.specs.Chars.{encode}
+use Rattle.errors.specs.declared.fault.Fault.{Fault}
+use Rattle.errors.specs.Faults.{fault_number}
 use Rattle.escapes.specs.declared.Given.{Given}
-use Rattle.escapes.specs.declared.Given.TheVariants.{Value, Bad}
 use Rattle.escapes.specs.declared.Escaped.{Escaped}
 
 pub data Meaning : Type 0 where
@@ -16,9 +17,9 @@ pub record Escape : Type 0 where
   pub len : ℕ
   pub meaning : Meaning
 
-abbrev pub meaning_of : Given → Meaning
-meaning_of (Value code byte) = character code byte
-meaning_of (Bad error) = no_character error
+abbrev pub meaning_of : Result Given Fault → Meaning
+meaning_of (Ok given) = character given.code given.byte
+meaning_of (Err fault) = no_character (fault_number fault)
 
 abbrev pub says : Escaped → Escape
 says x = record { len = x.len; meaning = meaning_of x.given }

@@ -5,9 +5,8 @@ use Rattle.utf8.specs.declared.Char.{Char}
 use Rattle.utf8.specs.Chars.{is_scalar}
 use Rattle.errors.specs.Numbers.{UNKNOWN_ESCAPE, CUT_ESCAPE, NO_CODE_POINT}
 use Rattle.digits.specs.Digit.{digit_val}
-use Rattle.escapes.specs.declared.escape_digits.EscapeDigits.{EscapeDigits}
 use Rattle.escapes.specs.Answers.{Meaning, character, no_character, Escape}
-use Rattle.escapes.specs.EscapeDigits.{escape_digits}
+use Rattle.escapes.specs.EscapeDigits.{Digits, escape_digits}
 
 -- the entry of a table for a character; 0 where it has none
 abbrev pub entry_for : ℕ → List (ℕ × ℕ) → ℕ
@@ -43,11 +42,11 @@ abbrev pub out_of_range : Meaning
 out_of_range = no_character NO_CODE_POINT
 
 -- a byte by its digits
-unfoldable pub byte_of : EscapeDigits → Meaning
+unfoldable pub byte_of : Digits → Meaning
 byte_of n = cond (eqb n.error 0) (cond (ltb 0xFF n.value) out_of_range (character n.value true)) (no_character n.error)
 
 -- a code by its digits
-unfoldable pub code_point_of : EscapeDigits → Meaning
+unfoldable pub code_point_of : Digits → Meaning
 code_point_of n = cond (eqb n.error 0) (cond (is_scalar n.value) (character n.value false) out_of_range) (no_character n.error)
 
 -- one that is not read, for an error

@@ -1,3 +1,4 @@
 pub mod Answers
 pub mod EscapeDigits
 pub mod Escape
+pub mod Steps

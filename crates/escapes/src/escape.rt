@@ -2,94 +2,85 @@
 ghost use Rattle.std.specs.Prelude.{◌≡◌, drop};
 ghost use Rattle.utf8.specs.Chars.{is_scalar, chars};
 ghost use Rattle.escapes.specs.Answers.{meaning_of, says};
+ghost use Rattle.escapes.specs.Steps.{digits_said, entry};
 ghost use Rattle.escapes.specs.Escape.{letter, following, byte_of, code_point_of, unread_escape, single_escape, octal_escape, hex_escape, escape_of};
+ghost use Rattle.errors.specs.Faults.{fault_number};
 
 use crate::escape_digits::{EscapeDigits, digits_at};
 use crate::{Escaped, Given};
+use digits::Base;
+use errors::Fault;
 
-// The error of digits whose number is out of range: above it, or a surrogate.
-const OUT_OF_RANGE: u8 = errors::NO_CODE_POINT;
+// The fault of digits whose number is out of range: above it, or a surrogate.
+const OUT_OF_RANGE: Fault = Fault::NoCodePoint;
 
-// The code that a letter, or a backslash, gives after a backslash; 0 for any other byte.
-fn letter_code(b: u8) -> u8
-    ensures { result ≡ letter b }
+// The code that a letter, or a backslash, gives after a backslash.
+#[tactic(auto, unfolding(crate::specs::Escape::letter))]
+fn letter_code(b: u8) -> Option<u32>
+    ensures { result ≡ entry (letter b) }
 {
     match b {
-        b'a' => 0x07,
-        b'b' => 0x08,
-        b'f' => 0x0C,
-        b'n' => b'\n',
-        b'r' => b'\r',
-        b't' => b'\t',
-        b'v' => 0x0B,
-        b'\\' => b'\\',
-        _ => 0,
+        b'a' => Some(0x07),
+        b'b' => Some(0x08),
+        b'f' => Some(0x0C),
+        b'n' => Some('\n' as u32),
+        b'r' => Some('\r' as u32),
+        b't' => Some('\t' as u32),
+        b'v' => Some(0x0B),
+        b'\\' => Some('\\' as u32),
+        _ => None,
     }
 }
 
 // What digits give that stand for a byte.
-fn byte_of(n: EscapeDigits) -> Given
-    ensures { meaning_of result ≡ byte_of n }
+fn byte_of(n: EscapeDigits) -> Result<Given, Fault>
+    ensures { meaning_of result ≡ byte_of (digits_said n) }
 {
-    let error = n.error;
-    if error != 0 {
-        return Given::Bad { error };
+    let code = n.value?;
+    if code > 0xFF {
+        return Err(OUT_OF_RANGE);
     }
-    let code = n.value;
-    if 0xFF < code {
-        return Given::Bad {
-            error: OUT_OF_RANGE,
-        };
-    }
-    Given::Value { code, byte: true }
+    Ok(Given { code, byte: true })
 }
 
 // Is a code a Unicode scalar value: no surrogate, and not above 10FFFF?
 fn is_scalar(code: u32) -> bool
     ensures { result ≡ is_scalar code }
 {
-    if code < 0xD800 {
-        return true;
-    }
-    0xE000 <= code && code <= 0x10FFFF
+    matches!(code, 0..=0xD7FF | 0xE000..=0x10FFFF)
 }
 
 // What digits give that stand for a code.
-fn code_of(n: EscapeDigits) -> Given
-    ensures { meaning_of result ≡ code_point_of n }
+fn code_of(n: EscapeDigits) -> Result<Given, Fault>
+    ensures { meaning_of result ≡ code_point_of (digits_said n) }
 {
-    let error = n.error;
-    if error != 0 {
-        return Given::Bad { error };
-    }
-    let code = n.value;
+    let code = n.value?;
     if !is_scalar(code) {
-        return Given::Bad {
-            error: OUT_OF_RANGE,
-        };
+        return Err(OUT_OF_RANGE);
     }
-    Given::Value { code, byte: false }
+    Ok(Given { code, byte: false })
 }
 
-// How many hexadecimal digits follow x, u or U; 0 for any other byte.
-fn digits_after(b: u8) -> usize
-    ensures { result ≡ following b }
+// How many hexadecimal digits follow x, u or U.
+#[tactic(auto, unfolding(crate::specs::Escape::following))]
+fn digits_after(b: u8) -> Option<usize>
+    ensures { result ≡ entry (following b) }
 {
     match b {
-        b'x' => 2,
-        b'u' => 4,
-        b'U' => 8,
-        _ => 0,
+        b'x' => Some(2),
+        b'u' => Some(4),
+        b'U' => Some(8),
+        _ => None,
     }
 }
 
-// An escape that is not read, for an error.
-fn unread(error: u8) -> Escaped
-    ensures { says result ≡ unread_escape error }
+// An escape that is not read, for a fault.
+fn unread(fault: Fault) -> Escaped
+    ensures { says result ≡ unread_escape (fault_number fault) }
 {
     Escaped {
         len: 0,
-        given: Given::Bad { error },
+        given: Err(fault),
     }
 }
 
@@ -97,21 +88,18 @@ fn unread(error: u8) -> Escaped
 fn hex_at(src: &[u8], at: usize, first: u8) -> Escaped
     ensures { says result ≡ hex_escape first (chars (drop at src.now)) }
 {
-    let count = digits_after(first);
-    if count == 0 {
-        return unread(errors::UNKNOWN_ESCAPE);
-    }
-    let n = digits_at(src, at, 16, count);
-    let len = n.len + 1;
-    if first == b'x' {
-        return Escaped {
-            len,
-            given: byte_of(n),
-        };
-    }
+    let Some(count) = digits_after(first) else {
+        return unread(Fault::UnknownEscape);
+    };
+    let n = digits_at(src, at, Base::Hexadecimal, count);
+    let given = if first == b'x' {
+        byte_of(n)
+    } else {
+        code_of(n)
+    };
     Escaped {
-        len,
-        given: code_of(n),
+        len: n.len + 1,
+        given,
     }
 }
 
@@ -119,7 +107,7 @@ fn hex_at(src: &[u8], at: usize, first: u8) -> Escaped
 fn octal_at(src: &[u8], at: usize) -> Escaped
     ensures { says result ≡ octal_escape (chars (drop at src.now)) }
 {
-    let n = digits_at(src, at, 8, 3);
+    let n = digits_at(src, at, Base::Octal, 3);
     Escaped {
         len: n.len,
         given: byte_of(n),
@@ -132,7 +120,7 @@ fn single(code: u32) -> Escaped
 {
     Escaped {
         len: 1,
-        given: Given::Value { code, byte: false },
+        given: Ok(Given { code, byte: false }),
     }
 }
 
@@ -140,13 +128,11 @@ fn single(code: u32) -> Escaped
 pub fn escape_at(src: &[u8], at: usize, quote: u8) -> Escaped
     ensures { says result ≡ escape_of quote (chars (drop at src.now)) }
 {
-    if src.len() <= at {
-        return unread(errors::CUT_ESCAPE);
-    }
-    let b = src[at];
-    let letter = letter_code(b);
-    if letter != 0 {
-        return single(letter as u32);
+    let Some(&b) = src.get(at) else {
+        return unread(Fault::CutEscape);
+    };
+    if let Some(code) = letter_code(b) {
+        return single(code);
     }
     let c = utf8::char_at(src, at);
     if c.code == quote as u32 {

@@ -1,46 +1,51 @@
 // The digits of an escape.
 ghost use Rattle.std.specs.Prelude.{◌≡◌, ◌≤◌, drop};
 ghost use Rattle.utf8.specs.Chars.{chars};
+ghost use Rattle.digits.specs.Base.{base_number};
 ghost use Rattle.escapes.specs.EscapeDigits.{escape_digits};
+ghost use Rattle.escapes.specs.Steps.{digits_said, whole};
 
-// Digits that were read: their value, how many, and the number of the error where they are too few.
+use digits::Base;
+use errors::Fault;
+
+// Digits that were read: how many, and their value, or what comes in place of one that is missing.
 #[derive(Clone, Copy)]
 pub(crate) struct EscapeDigits {
-    pub(crate) value: u32,
     pub(crate) len: usize,
-    pub(crate) error: u8,
+    pub(crate) value: Result<u32, Fault>,
+}
+
+fn radix_of(base: Base) -> u8
+    ensures { result ≡ base_number base }
+{
+    base as u8
 }
 
 // The value of exactly `count` digits below the base.
-pub(crate) fn digits_at(src: &[u8], at: usize, base: u8, count: usize) -> EscapeDigits
-    requires { (base ≤ 16) × (count ≤ 8) }
-    ensures { result ≡ escape_digits base count 0 (chars (drop at src.now)) }
+pub(crate) fn digits_at(src: &[u8], at: usize, base: Base, count: usize) -> EscapeDigits
+    requires { count ≤ 8 }
+    ensures { digits_said result ≡ whole (escape_digits (base_number base) count 0 (chars (drop at src.now))) }
 {
-    let mut len = 0;
+    let radix = radix_of(base);
     let mut value: u32 = 0;
-    while len < count {
-        let p = at + len;
-        if src.len() <= p {
+    for len in 0..count {
+        let Some(&b) = src.get(at + len) else {
             return EscapeDigits {
-                value,
                 len,
-                error: errors::CUT_ESCAPE,
+                value: Err(Fault::CutEscape),
+            };
+        };
+        let d = digits::digit_val(b);
+        if radix <= d {
+            return EscapeDigits {
+                len,
+                value: Err(Fault::BadEscape),
             };
         }
-        let d = digits::digit_val(src[p]);
-        if base <= d {
-            return EscapeDigits {
-                value,
-                len,
-                error: errors::BAD_ESCAPE,
-            };
-        }
-        value = value * base as u32 + d as u32;
-        len += 1;
+        value = value * radix as u32 + d as u32;
     }
     EscapeDigits {
-        value,
-        len,
-        error: 0,
+        len: count,
+        value: Ok(value),
     }
 }

@@ -4,14 +4,14 @@
 mod escape;
 mod escape_digits;
 
+use errors::Fault;
 pub use escape::escape_at;
 
-// What an escape gives: a character by its code, or one byte; or nothing, with the number of its
-// error.
+// What an escape gives: a character by its code, or one byte.
 #[derive(Clone, Copy)]
-pub enum Given {
-    Value { code: u32, byte: bool },
-    Bad { error: u8 },
+pub struct Given {
+    pub code: u32,
+    pub byte: bool,
 }
 
 // An escape: how many characters it has after the backslash, each of one byte where the quote is
@@ -19,5 +19,5 @@ pub enum Given {
 #[derive(Clone, Copy)]
 pub struct Escaped {
     pub len: usize,
-    pub given: Given,
+    pub given: Result<Given, Fault>,
 }

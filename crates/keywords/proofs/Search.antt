@@ -16,14 +16,14 @@ use Rattle.basics.proofs.Every.{every_entry}
 use Rattle.swar.specs.Number.{number_of}
 use Rattle.swar.proofs.Numbers.{Bytes, bytes_of, bytes_take, number_injective}
 use Rattle.kinds.specs.Kinds.{IDENT}
+use Rattle.kinds.specs.Precedence.{among}
 use Rattle.kinds.specs.Table.{Row, keywords, ident_token}
-use Rattle.keywords.specs.declared.Row.{Row as Coded}
 use Rattle.keywords.specs.Search.{slot_of, slot_of_word, pair, row_in}
 use Rattle.kinds.proofs.Table.{none}
 use Rattle.keywords.proofs.Words.{Known, known, look, keyword_found}
 
 -- the code's row of a keyword
-abbrev coded : Row → Coded
+abbrev coded : Row → ℕ × ℕ
 coded row = pair row.kind (number_of row.name)
 
 -- a slot holds a row
@@ -48,6 +48,23 @@ slot_held slot (row ∷ rows) =
     inr (held 0 (suc-le-suc zero-le) (leb-true _ _ q.0) (eqb-true _ _ q.1) (rw e)))
     (λ (e : in_slot slot row ≡ false). ⊎_elim (λ d. inl (rw e d)) (λ k. inr (deeper slot row rows e k)) (slot_held slot rows))
     (either (in_slot slot row))
+
+-- the slots of the keywords
+abbrev pub taken : List ℕ
+taken = 6 ∷ 7 ∷ 8 ∷ 11 ∷ 12 ∷ 14 ∷ 15 ∷ 16 ∷ 17 ∷ 20 ∷ 26 ∷ 27 ∷ 29 ∷ 34 ∷ 37 ∷ 43 ∷ 44 ∷ 45 ∷ 46 ∷ 48 ∷ 50 ∷ 53 ∷ 55 ∷ []
+
+abbrev is_taken : ℕ → Row → Bool
+is_taken i row = ltb 8 (length row.name) || among (slot_of_word row.name) taken
+
+-- no other slot has a keyword
+pub no_row : (slot : ℕ) → among slot taken ≡ false → pair IDENT 0 ≡ row_in slot keywords
+unfolding keywords slot_of number_of
+no_row slot e = ⊎_elim (λ d. sym d) (λ k. absurd (in_use k)) (slot_held slot keywords)
+  where
+    in_use : Held slot keywords → ⊥
+    in_use (held i h l s p) =
+        let t : T (is_taken i (get_or keywords i none)) = every_entry is_taken keywords none tt i h in
+        simp (le-ltb _ _ l, sym s, e) at t
 
 -- what the code answers for a word of at most eight bytes
 abbrev pub searched : ℕ → ℕ → ℕ
@@ -110,12 +127,12 @@ module _ (w : List ℕ) (bytes : Bytes w) (short : length w ≤ 8) where
           rw e (keyword_searched i h l ∙ sym (keyword_found i h))
 
 -- the code's last test
-module _ (number n : ℕ) (r : Coded) (e : r ≡ row_in (slot_of number n) keywords) where
-  pub search_hit : r.1 ≡ number → r.0 ≡ searched number n
-  search_hit t = let h : eqb (row_in (slot_of number n) keywords).1 number ≡ true = rw e at (eq-eqb _ _ t) in rw (h, e)
+module _ (number n kind found : ℕ) (e : pair kind found ≡ row_in (slot_of number n) keywords) where
+  pub search_hit : found ≡ number → kind ≡ searched number n
+  search_hit t = rw (sym e, eq-eqb _ _ t)
 
-  pub search_miss : (r.1 ≡ number → ⊥) → IDENT ≡ searched number n
-  search_miss f = let h : eqb (row_in (slot_of number n) keywords).1 number ≡ false = rw e at (ne_eqb _ _ f) in rw h
+  pub search_miss : (found ≡ number → ⊥) → IDENT ≡ searched number n
+  search_miss f = rw (sym e, ne_eqb _ _ f)
 
 -- a word is cut off where the text ends
 pub take_least : (len : ℕ) (s : List ℕ) → take (min len (length s)) s ≡ take len s

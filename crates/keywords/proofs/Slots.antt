@@ -3,13 +3,12 @@ use Prim.Native.Nat.{ℕ, zero, suc, ◌+◌, ◌*◌, ◌/◌, ◌%◌, ◌≤�
 use mathlib.Core.Path.{◌≡◌, refl, sym, ap, ◌∙◌}
 use mathlib.Core.Bool.{true, false}
 use mathlib.Core.List.{List}
-use native.Mathlib.Decide.{dec_lt}
 use native.Mathlib.Nat.{zero-add, le_of_suc-le-suc, not-suc-le-zero}
 use native.Mathlib.Omega.{arith}
 use borrow.Author.Tests.{eq-eqb, ne_eqb}
 use lib.Dec.{eqb}
-use lib.ListN.{length, get_or, set, take, length-set}
-use lib.Seq.{ext_get_or, get_or-set_same, get_or-set_other}
+use lib.ListN.{length, get_or, take}
+use lib.Seq.{ext_get_or}
 use Rattle.swar.specs.Number.{number_of}
 use Rattle.swar.proofs.Numbers.{Bytes}
 use Rattle.kinds.specs.Kinds.{IDENT}
@@ -39,25 +38,9 @@ module _ (f : ℕ → ℕ) where
   unfolding by_slot
   entry k h = slots_entry 0 64 k h ∙ ap f (zero-add k)
 
-  -- a table of 64 entries is filled up to a slot
-  abbrev pub Filled : List ℕ → ℕ → Type 0
-  Filled l n = (n ≤ 64) × (length l ≡ 64) × ((i : ℕ) → i < n → get_or l i 0 ≡ f i)
-
-  pub begun : (l : List ℕ) → length l ≡ 64 → Filled l 0
-  begun l e = (omega arith, e, λ i h. absurd (not-suc-le-zero h))
-
-  pub more : (l : List ℕ) (n x : ℕ) → n < 64 → x ≡ f n → Filled l n → Filled (set l n x) (n + 1)
-  more l n x h e (_, long, low) = (omega arith, length-set l n x ∙ long, λ i g. elim (dec_lt i n) [ yes d ↦ before i d | no d ↦ here i (omega arith) ])
-    where
-      here : (i : ℕ) → i ≡ n → get_or (set l n x) i 0 ≡ f i
-      here i d = rw d (get_or-set_same l n x 0 (omega arith) ∙ e)
-
-      before : (i : ℕ) → i < n → get_or (set l n x) i 0 ≡ f i
-      before i g = get_or-set_other l n i x 0 (λ d. omega arith) ∙ low i g
-
-  pub full : (l : List ℕ) (n : ℕ) → 64 ≤ n → Filled l n → l ≡ by_slot f
-  full l n h (_, long, low) =
-      ext_get_or 0 l (by_slot f) (long ∙ sym by_slot_length) (λ i k. low i (omega arith) ∙ sym (entry i (omega arith)))
+  pub table_is : (l : List ℕ) → length l ≡ 64 → ((i : ℕ) → i < 64 → get_or l i 0 ≡ f i) → l ≡ by_slot f
+  table_is l long each =
+      ext_get_or 0 l (by_slot f) (long ∙ sym by_slot_length) (λ i k. each i (omega arith) ∙ sym (entry i (omega arith)))
 
 plus_mod : (n m : ℕ) → (n % 64 + m) % 64 ≡ (n + m) % 64
 plus_mod n m = omega arith

@@ -56,24 +56,29 @@ word_kind w = ⊎_elim (λ d. inl d) (λ k. inr (spelt k)) (look w keywords)
     spelt : Known w keywords → between BREAK (ident_token w) VAR ≡ true
     spelt (known i h e) = rw (e, keyword_found i h) (keyword_kind i h)
 
-pub interface_named : (w : List ℕ) → same w (spelled "interface") ≡ true → INTERFACE ≡ ident_token w
+pub interface_named : (w : List ℕ) → w ≡ spelled "interface" → INTERFACE ≡ ident_token w
 unfolding keywords kind_named same
-interface_named w e = ap ident_token (sym (same_true w (spelled "interface") e))
+interface_named w e = ap ident_token (sym e)
 
-pub fallthrough_named : (w : List ℕ) → same w (spelled "fallthrough") ≡ true → FALLTHROUGH ≡ ident_token w
+pub fallthrough_named : (w : List ℕ) → w ≡ spelled "fallthrough" → FALLTHROUGH ≡ ident_token w
 unfolding keywords kind_named same
-fallthrough_named w e = ap ident_token (sym (same_true w (spelled "fallthrough") e))
+fallthrough_named w e = ap ident_token (sym e)
 
 -- the keywords of more than eight bytes
 abbrev long_known : ℕ → Row → Bool
 long_known i row = leb (length row.name) 8 || (same row.name (spelled "interface") || same row.name (spelled "fallthrough"))
 
-pub long_unknown : (w : List ℕ) → 8 < length w → same w (spelled "interface") ≡ false → same w (spelled "fallthrough") ≡ false
+not_same : (a b : List ℕ) → (a ≡ b → ⊥) → same a b ≡ false
+not_same a b f = ⊎_elim (λ (e : same a b ≡ true). absurd (f (same_true a b e))) (λ d. d) (either (same a b))
+
+pub long_unknown : (w : List ℕ) → 8 < length w → (w ≡ spelled "interface" → ⊥) → (w ≡ spelled "fallthrough" → ⊥)
     → IDENT ≡ ident_token w
 unfolding keywords same
-long_unknown w l a b = ⊎_elim (λ d. sym d) (λ k. absurd (spelt k)) (look w keywords)
+long_unknown w l f g = ⊎_elim (λ d. sym d) (λ k. absurd (spelt k)) (look w keywords)
   where
     spelt : Known w keywords → ⊥
     spelt (known i h e) =
+        let a = not_same w (spelled "interface") f in
+        let b = not_same w (spelled "fallthrough") g in
         let t : T (long_known i (get_or keywords i none)) = every_entry long_known keywords none tt i h in
         simp (sym e, lt-leb (length w) 8 l, a, b) at t

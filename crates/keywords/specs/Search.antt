@@ -3,7 +3,6 @@ use Rattle.std.specs.Prelude.{ℕ, zero, suc, ◌+◌, ◌*◌, ◌/◌, ◌%◌
 use Rattle.swar.specs.Number.{number_of}
 use Rattle.kinds.specs.Kinds.{IDENT}
 use Rattle.kinds.specs.Table as Table
-use Rattle.keywords.specs.declared.Row.{Row}
 
 -- the slot of a number of n bytes: by n and the first two bytes
 unfoldable pub slot_of : ℕ → ℕ → ℕ
@@ -14,11 +13,11 @@ abbrev pub slot_of_word : List ℕ → ℕ
 slot_of_word word = slot_of (number_of word) (length word)
 
 -- a row of the code: a kind and a spelling as a number
-abbrev pub pair : ℕ → ℕ → Row
-pair kind number = record { 0 = kind; 1 = number }
+abbrev pub pair : ℕ → ℕ → ℕ × ℕ
+pair kind number = (kind, number)
 
 -- the first keyword of at most eight bytes in a slot; where there is none, IDENT and 0
-unfoldable pub row_in : ℕ → List Table.Row → Row
+unfoldable pub row_in : ℕ → List Table.Row → ℕ × ℕ
 row_in slot [] = pair IDENT 0
 row_in slot (k ∷ ks) = cond (leb (length k.name) 8 && eqb slot (slot_of_word k.name)) (pair k.kind (number_of k.name)) (row_in slot ks)
 

@@ -16,19 +16,22 @@ use Rattle.basics.proofs.Lists.{same_refl, same_length}
 use Rattle.utf8.specs.declared.Char.{Char}
 use Rattle.utf8.specs.Chars.{ended, chars, octets, encode, encoded}
 use Rattle.utf8.proofs.Places.{place_fits}
+use Rattle.std.specs.Prelude.{Option}
 use Rattle.kinds.specs.Kinds.{STRING}
-use Rattle.numbers.specs.declared.Number.{Number}
+use Rattle.kinds.specs.declared.kind.Kind.{Kind}
+use Rattle.kinds.specs.Number.{kind_number}
+use Rattle.errors.specs.declared.fault.Fault.{Fault}
+use Rattle.errors.specs.Faults.{error_number}
 use Rattle.numbers.specs.declared.Spelling.{Spelling}
 use Rattle.numbers.specs.declared.Spelling.TheVariants.{AsRead, LowerPrefix, OctalPrefix, LowerExponent}
-use Rattle.numbers.specs.Number.{number, number_at}
+use Rattle.numbers.specs.Number.{number}
 use Rattle.numbers.specs.Spelling.{lower_second, gain_o, lower_e, number_text}
 use Rattle.numbers.proofs.Tested.{Spelled, number_ascii, number_spelled, number_within, number_kind}
 use Rattle.lexer.specs.declared.lexed.Text.TheVariants.{Number as NumberText}
-use Rattle.lexer.specs.declared.lexed.Value.TheVariants.{Empty as NoValue}
 use Rattle.lexer.specs.declared.lexed.Lexed.{Lexed}
 use Rattle.lexer.specs.Lexeme.{shown}
 use Rattle.lexer.specs.Words.{lex_number}
-use Rattle.lexer.specs.Made.{gained_by, respelled_by}
+use Rattle.lexer.specs.Made.{shown_as, no_value, gained_by, respelled_by}
 use Rattle.lexer.specs.Making.{is_number, spelling_of}
 use Rattle.lexer.specs.Placed.{text_differs_in, placed, said}
 use Rattle.lexer.proofs.Said.{alike, exact_length, text_same, text_some}
@@ -143,32 +146,30 @@ module _ (s : List ℕ) (at : ℕ) where
   number_end h = rw number_facts.width at (place_fits (number (chars (drop at s))).len s at h)
 
   -- the answer that the code makes
-  abbrev pub numeral_at : Number → Lexed
-  numeral_at n =
+  abbrev pub numeral_at : Kind → Option Fault → ℕ → Spelling → Lexed
+  numeral_at kind error end spelling =
       record {
-        end = n.end;
-        chars = n.end - at;
+        end = end;
+        chars = end - at;
         lfs = 0;
         strays = 0;
-        kind = n.kind;
+        kind = kind;
         inserted = false;
         mark = true;
-        error = n.error;
+        error = error;
         code = 0;
-        text = NumberText n.spelling;
-        value = NoValue;
-        text_bytes = n.end - at + gained_by n.spelling;
-        value_bytes = 0;
-        text_differs = respelled_by n.spelling;
-        value_differs = false;
+        text = shown_as (NumberText spelling) (end - at + gained_by spelling) (respelled_by spelling);
+        value = no_value;
       }
 
   read : at + (number (chars (drop at s))).len - at ≡ (number (chars (drop at s))).len
   read = omega arith
 
-  pub numeral_said : is_number (chars (drop at s)) ≡ true → said s at (numeral_at (number_at at (number (chars (drop at s))))) ≡ placed s at (lex_number (chars (drop at s)))
+  pub numeral_said : is_number (chars (drop at s)) ≡ true → (kind : Kind) (error : Option Fault)
+      → kind_number kind ≡ (number (chars (drop at s))).kind → error_number error ≡ (number (chars (drop at s))).error
+      → said s at (numeral_at kind error (at + (number (chars (drop at s))).len) (number (chars (drop at s))).spelling) ≡ placed s at (lex_number (chars (drop at s)))
   unfolding said placed lex_number same
-  numeral_said starts =
+  numeral_said starts kind error k m =
       let r = chars (drop at s) in
       let x = number r in
       let f = number_facts in
@@ -177,7 +178,7 @@ module _ (s : List ℕ) (at : ℕ) where
       let low : (i : ℕ) → i < length (encoded cs) → (get_or cs i ended).code < 0x80 = rw f.size (λ i l. rw (get_or-take x.len r i ended l) (number_ascii r i l).0) in
       alike
       (record {
-        lexeme = rw (read, ← f.shown);
+        lexeme = rw (read, ← f.shown, k, m);
         end = rw f.width;
         lfs = sym f.lfs;
         strays = sym f.strays;

@@ -4,7 +4,7 @@ use mathlib.Core.Path.{◌≡◌, refl, sym}
 use mathlib.Core.Bool.{Bool, true, false, not, ◌||◌, true≢false}
 use mathlib.Core.List.{List, [], ◌∷◌}
 use native.Mathlib.Omega.{arith}
-use native.Mathlib.Nat.{add-zero, sub_self, not-suc-le-zero}
+use native.Mathlib.Nat.{add-zero, not-suc-le-zero}
 use lib.Dec.{eqb}
 use lib.ListN.{length}
 use borrow.Author.Tests.{ne_eqb}
@@ -73,7 +73,7 @@ unfolding said placed same
 semicolon_said s at =
     alike
     (record {
-      lexeme = rw (sub_self at);
+      lexeme = refl;
       end = sym (add-zero at);
       lfs = refl;
       strays = refl;

@@ -11,8 +11,15 @@ use Rattle.utf8.specs.declared.Char.{Char}
 use Rattle.utf8.specs.Chars.{chars, peek, widths, is_stray}
 use Rattle.utf8.proofs.First.{chars_le}
 use Rattle.utf8.proofs.Places.{place_fits}
+use Rattle.std.specs.Prelude.{Option, Some, None}
 use Rattle.kinds.specs.Kinds.{STRING, COMMENT}
+use Rattle.kinds.specs.declared.kind.Kind.{Kind}
+use Rattle.kinds.specs.declared.kind.Kind.TheVariants.{Comment, String}
+use Rattle.kinds.specs.Number.{kind_number}
 use Rattle.errors.specs.Numbers.{OPEN_RAW_STRING, OPEN_COMMENT}
+use Rattle.errors.specs.declared.fault.Fault.{Fault}
+use Rattle.errors.specs.declared.fault.Fault.TheVariants.{OpenRawString}
+use Rattle.errors.specs.Faults.{error_number}
 use Rattle.spans.specs.declared.body.Body.{Body}
 use Rattle.spans.specs.Span.{Span, to_stop, to_star_slash}
 use Rattle.utf8.specs.Count.{is_cr, count}
@@ -26,11 +33,12 @@ use Rattle.lexer.specs.declared.lexed.Text.{Text}
 use Rattle.lexer.specs.declared.lexed.Text.TheVariants.{WithoutCr, WithLf}
 use Rattle.lexer.specs.declared.lexed.Value.{Value}
 use Rattle.lexer.specs.declared.lexed.Value.TheVariants.{Empty as NoValue, Raw}
+use Rattle.lexer.specs.declared.lexed.Shown.{Shown}
 use Rattle.lexer.specs.declared.lexed.Lexed.{Lexed}
 use Rattle.lexer.specs.Lexeme.{inserted_semicolon}
 use Rattle.lexer.specs.Quotes.{raw_of, lex_raw}
 use Rattle.lexer.specs.Comments.{line_comment, general_comment, comment, lex_comment}
-use Rattle.lexer.specs.Made.{inserted_at}
+use Rattle.lexer.specs.Made.{shown_as, no_value, clean_as, inserted_at}
 use Rattle.lexer.specs.Making.{text_way, value_way}
 use Rattle.lexer.specs.Placed.{text_of, value_of, text_differs_in, length_of, said, placed}
 use Rattle.lexer.proofs.Said.{alike, exact_with_strays, text_some, semicolon_said}
@@ -38,8 +46,8 @@ use Rattle.lexer.proofs.Opened.{lexeme_as, Opened, opened_raw, opened_comment, o
 use Rattle.lexer.proofs.Ways.{first_taken, way_without_cr, way_with_lf}
 
 -- a token by its body, with what the code sets itself
-abbrev pub body_as : Body → ℕ → ℕ → ℕ → Bool → Text → Value → ℕ → ℕ → Bool → Bool → Lexed
-body_as b opening kind error mark text value bytes inside differs other =
+abbrev pub body_as : Body → ℕ → Kind → Option Fault → Bool → Shown Text → Shown Value → Lexed
+body_as b opening kind error mark text value =
     record {
       end = b.end;
       chars = b.chars + opening;
@@ -52,10 +60,6 @@ body_as b opening kind error mark text value bytes inside differs other =
       code = 0;
       text = text;
       value = value;
-      text_bytes = bytes;
-      value_bytes = inside;
-      text_differs = differs;
-      value_differs = other;
     }
 
 -- how many bytes its text has, and whether they differ from those read
@@ -112,13 +116,13 @@ module _ (s : List ℕ) (at n : ℕ) (o : Opened s at n) (sp : Span) where
       rw (e, ← o.crs sp.len, ← o.strays sp.len)
       (sym (text_some (clean read) (take (widths read) (drop at s)) (text_there some) ∙ clean_differs s (n + sp.len) at (omega (arith, o.within))))
 
-  span_said : (b : Body) → b ≡ body_of (at + n) sp rest → (kind error : ℕ) (mark : Bool) (how : Text) (way : Value) (text value : List ℕ) (bytes inside : ℕ) (differs other : Bool)
-      → how ≡ text_way read (lexeme_as (n + sp.len) kind error 0 mark text value) → way ≡ value_way read (lexeme_as (n + sp.len) kind error 0 mark text value)
+  span_said : (b : Body) → b ≡ body_of (at + n) sp rest → (kind : Kind) (error : Option Fault) (mark : Bool) (how : Text) (way : Value) (text value : List ℕ) (bytes inside : ℕ) (differs other : Bool)
+      → how ≡ text_way read (lexeme_as (n + sp.len) (kind_number kind) (error_number error) 0 mark text value) → way ≡ value_way read (lexeme_as (n + sp.len) (kind_number kind) (error_number error) 0 mark text value)
       → ((all : List ℕ) → text_of how read all ≡ text) → value_of way (chars (drop (at + 1) s)) ≡ value
       → length_of bytes b.strays differs ≡ length text → length_of inside b.strays other ≡ length value
       → differs ≡ text_differs_in text (take (widths read) (drop at s))
-      → other ≡ not (same value (cond (eqb kind STRING) (take (length (take (widths read) (drop at s)) - cond (eqb error OPEN_RAW_STRING) 1 2) (drop 1 (take (widths read) (drop at s)))) []))
-      → said s at (body_as b n kind error mark how way bytes inside differs other) ≡ placed s at (lexeme_as (n + sp.len) kind error 0 mark text value)
+      → other ≡ not (same value (cond (eqb (kind_number kind) STRING) (take (length (take (widths read) (drop at s)) - cond (eqb (error_number error) OPEN_RAW_STRING) 1 2) (drop 1 (take (widths read) (drop at s)))) []))
+      → said s at (body_as b n kind error mark (shown_as how bytes differs) (shown_as way inside other)) ≡ placed s at (lexeme_as (n + sp.len) (kind_number kind) (error_number error) 0 mark text value)
   unfolding said placed body_of
   span_said b e kind error mark how way text value bytes inside differs other tw vw t v f g h k =
       let r = chars (drop at s) in
@@ -131,12 +135,12 @@ module _ (s : List ℕ) (at n : ℕ) (o : Opened s at n) (sp : Span) where
             λ i. record {
               skipped = 0;
               len = m i;
-              kind = kind;
+              kind = kind_number kind;
               inserted = false;
               text = u (take ((body_of (at + n) sp rest).end - at) (drop at s)) i;
               value = v i;
               code = 0;
-              error = error;
+              error = error_number error;
               mark = mark;
             };
         end = omega (arith, o.bytes sp.len);
@@ -195,17 +199,17 @@ module _ (s : List ℕ) (at : ℕ) (there : get_or s at 0 ≡ 96) (b : Body) (is
   raw_first : peek raw_read ≡ 96
   raw_first = first_taken (1 + raw_span.len) (chars (drop at s)) (omega arith) ∙ ap peek (open_chars s at 96 (omega arith) (omega arith) there)
 
-  raw_said : (error : ℕ) → cond raw_span.closed 0 OPEN_RAW_STRING ≡ error → (inside : ℕ) → inside + 2 * b.strays ≡ length raw_value
-      → differs_of b ≡ not (same raw_value (take (widths (take raw_span.len (chars (drop (at + 1) s))) - cond (eqb error OPEN_RAW_STRING) 0 1) (drop (at + 1) s)))
-      → said s at (body_as b 1 STRING error true WithoutCr Raw (bytes_of b at) inside (differs_of b) (differs_of b)) ≡ placed s at (lex_raw (chars (drop at s)))
+  raw_said : (error : Option Fault) → cond raw_span.closed 0 OPEN_RAW_STRING ≡ error_number error → (inside : ℕ) → inside + 2 * b.strays ≡ length raw_value
+      → differs_of b ≡ not (same raw_value (take (widths (take raw_span.len (chars (drop (at + 1) s))) - cond (eqb (error_number error) OPEN_RAW_STRING) 0 1) (drop (at + 1) s)))
+      → said s at (body_as b 1 String error true (clean_as b at) (shown_as Raw inside (differs_of b))) ≡ placed s at (lex_raw (chars (drop at s)))
   raw_said error e inside n d =
       let w : widths raw_read ≡ suc (widths (take raw_span.len (chars (drop (at + 1) s)))) = omega (arith, raw_opened.bytes raw_span.len) in
-      let x = lexeme_as (1 + raw_span.len) STRING error 0 true (clean raw_read) raw_value in
-      span_said s at 1 raw_opened raw_span b is STRING error true WithoutCr Raw (clean raw_read) raw_value (bytes_of b at) inside (differs_of b) (differs_of b)
+      let x = lexeme_as (1 + raw_span.len) STRING (error_number error) 0 true (clean raw_read) raw_value in
+      span_said s at 1 raw_opened raw_span b is String error true WithoutCr Raw (clean raw_read) raw_value (bytes_of b at) inside (differs_of b) (differs_of b)
       (way_without_cr raw_read x (text_there s at 1 raw_opened raw_span (omega arith)) (rw raw_first) (rw raw_first) refl) (rw raw_first)
       (λ _. refl) refl (text_exact s at 1 raw_opened raw_span b is)
       (exact_with_strays (not (eqb b.crs 0)) inside b.strays (length raw_value) n) (text_differs_lem s at 1 raw_opened raw_span (omega arith) b is)
-      (d ∙ ap (λ l. not (same raw_value l)) (sym (inside_token (eqb error OPEN_RAW_STRING) s at (widths raw_read) _ w (read_fits s at 1 raw_opened raw_span))))
+      (d ∙ ap (λ l. not (same raw_value l)) (sym (inside_token (eqb (error_number error) OPEN_RAW_STRING) s at (widths raw_read) _ w (read_fits s at 1 raw_opened raw_span))))
       ∙ ap (placed s at) (sym (raw_lexeme ∙ ap (λ k. lexeme_as (1 + raw_span.len) STRING k 0 true (clean raw_read) raw_value) e))
 
   module _ (h : b.closed ≡ true) where
@@ -220,7 +224,7 @@ module _ (s : List ℕ) (at : ℕ) (there : get_or s at 0 ≡ 96) (b : Body) (is
         let i = stop_inside 96 (omega arith) (λ z. omega arith) s (at + 1) closed in
         rw is (omega (arith, i.bytes, i.crs, count_fits is_cr (raw_span.len - 1) s (at + 1)))
 
-    pub raw_closed : said s at (body_as b 1 STRING 0 true WithoutCr Raw (bytes_of b at) (bytes_of b at - 2) (differs_of b) (differs_of b)) ≡ placed s at (lex_raw (chars (drop at s)))
+    pub raw_closed : said s at (body_as b 1 String None true (clean_as b at) (shown_as Raw (bytes_of b at - 2) (differs_of b))) ≡ placed s at (lex_raw (chars (drop at s)))
     unfolding body_of
     raw_closed =
         let r = chars (drop (at + 1) s) in
@@ -228,13 +232,13 @@ module _ (s : List ℕ) (at : ℕ) (there : get_or s at 0 ≡ 96) (b : Body) (is
         let v = raw_value_lem (raw_span.len - 1) (rw closed) i.crs i.strays in
         let w : widths (take raw_span.len r) - 1 ≡ widths (take (raw_span.len - 1) r) = omega (arith, i.bytes) in
         let end : b.end ≡ at + 1 + widths (take raw_span.len r) = ap (λ (x : Body). x.end) is in
-        raw_said 0 (rw closed) (bytes_of b at - 2) (omega (arith, v.0, i.bytes, end, raw_two)) (v.1 ∙ ap (λ m. not (same raw_value (take m (drop (at + 1) s)))) (sym w))
+        raw_said None (rw closed) (bytes_of b at - 2) (omega (arith, v.0, i.bytes, end, raw_two)) (v.1 ∙ ap (λ m. not (same raw_value (take m (drop (at + 1) s)))) (sym w))
 
   pub raw_one : 1 ≤ bytes_of b at
   unfolding body_of
   raw_one = rw is (omega (arith, count_fits is_cr raw_span.len s (at + 1)))
 
-  pub raw_open : b.closed ≡ false → said s at (body_as b 1 STRING OPEN_RAW_STRING true WithoutCr Raw (bytes_of b at) (bytes_of b at - 1) (differs_of b) (differs_of b)) ≡ placed s at (lex_raw (chars (drop at s)))
+  pub raw_open : b.closed ≡ false → said s at (body_as b 1 String (Some OpenRawString) true (clean_as b at) (shown_as Raw (bytes_of b at - 1) (differs_of b))) ≡ placed s at (lex_raw (chars (drop at s)))
   unfolding body_of
   raw_open h =
       let r = chars (drop (at + 1) s) in
@@ -242,7 +246,7 @@ module _ (s : List ℕ) (at : ℕ) (there : get_or s at 0 ≡ 96) (b : Body) (is
       let v = raw_value_lem raw_span.len (rw c) refl refl in
       let w : widths (take raw_span.len r) - 0 ≡ widths (take raw_span.len r) = omega arith in
       let end : b.end ≡ at + 1 + widths (take raw_span.len r) = ap (λ (x : Body). x.end) is in
-      raw_said OPEN_RAW_STRING (rw c) (bytes_of b at - 1) (omega (arith, v.0, end, raw_one)) (v.1 ∙ ap (λ m. not (same raw_value (take m (drop (at + 1) s)))) (sym w))
+      raw_said (Some OpenRawString) (rw c) (bytes_of b at - 1) (omega (arith, v.0, end, raw_one)) (v.1 ∙ ap (λ m. not (same raw_value (take m (drop (at + 1) s)))) (sym w))
 
 -- ---- comments
 module _ (s : List ℕ) (at : ℕ) (first : get_or s at 0 ≡ 47) (mark : Bool) (b : Body) where
@@ -250,16 +254,16 @@ module _ (s : List ℕ) (at : ℕ) (first : get_or s at 0 ≡ 47) (mark : Bool) 
   comment_first : (x k : ℕ) → 0 < x → x < 0x80 → get_or s (at + 1) 0 ≡ x → peek (take (2 + k) (chars (drop at s))) ≡ 47
   comment_first x k z l e = first_taken (2 + k) (chars (drop at s)) (omega arith) ∙ ap peek (comment_chars s at x z l first e)
 
-  comment_said : (x : ℕ) → 13 < x → x < 0x80 → get_or s (at + 1) 0 ≡ x → (sp : Span) → b ≡ body_of (at + 2) sp (chars (drop (at + 2) s)) → (error : ℕ)
-      → said s at (body_as b 2 COMMENT error mark WithoutCr NoValue (bytes_of b at) 0 (differs_of b) false)
-      ≡ placed s at (lexeme_as (2 + sp.len) COMMENT error 0 mark (clean (take (2 + sp.len) (chars (drop at s)))) [])
+  comment_said : (x : ℕ) → 13 < x → x < 0x80 → get_or s (at + 1) 0 ≡ x → (sp : Span) → b ≡ body_of (at + 2) sp (chars (drop (at + 2) s)) → (error : Option Fault)
+      → said s at (body_as b 2 Comment error mark (clean_as b at) no_value)
+      ≡ placed s at (lexeme_as (2 + sp.len) COMMENT (error_number error) 0 mark (clean (take (2 + sp.len) (chars (drop at s)))) [])
   unfolding same
   comment_said x l h second sp is error =
       let o = opened_comment s at x l h first second in
       let cs = take (2 + sp.len) (chars (drop at s)) in
       let f = comment_first x sp.len (omega arith) h second in
-      span_said s at 2 o sp b is COMMENT error mark WithoutCr NoValue _ [] (bytes_of b at) 0 (differs_of b) false
-      (way_without_cr cs (lexeme_as (2 + sp.len) COMMENT error 0 mark (clean cs) []) (text_there s at 2 o sp (omega arith)) (rw f) (rw f) refl) refl
+      span_said s at 2 o sp b is Comment error mark WithoutCr NoValue _ [] (bytes_of b at) 0 (differs_of b) false
+      (way_without_cr cs (lexeme_as (2 + sp.len) COMMENT (error_number error) 0 mark (clean cs) []) (text_there s at 2 o sp (omega arith)) (rw f) (rw f) refl) refl
       (λ _. refl) refl
       (text_exact s at 2 o sp b is) refl (text_differs_lem s at 2 o sp (omega arith) b is) refl
 
@@ -286,14 +290,14 @@ module _ (s : List ℕ) (at : ℕ) (first : get_or s at 0 ≡ 47) (mark : Bool) 
         ap (λ l. cond (eqb (peek (drop 1 l)) 47) (line_comment mark r (to_stop 10 (drop 2 l))) (general_comment mark r (to_star_slash false (drop 2 l))))
         (comment_chars s at 47 (omega arith) (omega arith) first second)
 
-    pub line_closed : b.closed ≡ true → said s at (body_as b 2 COMMENT 0 mark WithoutCr NoValue (bytes_of b at) 0 (differs_of b) false) ≡ placed s at (comment mark (chars (drop at s)))
+    pub line_closed : b.closed ≡ true → said s at (body_as b 2 Comment None mark (clean_as b at) no_value) ≡ placed s at (comment mark (chars (drop at s)))
     unfolding body_of
     line_closed h =
         let c : line_span.closed ≡ true = sym (ap (λ (x : Body). x.closed) is) ∙ h in
-        comment_said 47 (omega arith) (omega arith) second line_span is 0
+        comment_said 47 (omega arith) (omega arith) second line_span is None
         ∙ ap (placed s at) (sym (line_lexeme ∙ rw (c, append-nil (clean line_read))))
 
-    pub line_open : b.closed ≡ false → said s at (body_as b 2 COMMENT 0 mark WithLf NoValue (bytes_of b at + 1) 0 true false) ≡ placed s at (comment mark (chars (drop at s)))
+    pub line_open : b.closed ≡ false → said s at (body_as b 2 Comment None mark (shown_as WithLf (bytes_of b at + 1) true) no_value) ≡ placed s at (comment mark (chars (drop at s)))
     unfolding body_of same
     line_open h =
         let c : line_span.closed ≡ false = sym (ap (λ (x : Body). x.closed) is) ∙ h in
@@ -302,7 +306,7 @@ module _ (s : List ℕ) (at : ℕ) (first : get_or s at 0 ≡ 47) (mark : Bool) 
         let fed : List ℕ = clean line_read ++ (10 ∷ []) in
         let n = length-append (clean line_read) (10 ∷ []) in
         let f = comment_first 47 line_span.len (omega arith) (omega arith) second in
-        span_said s at 2 o line_span b is COMMENT 0 mark WithLf NoValue fed [] (bytes_of b at + 1) 0 true false
+        span_said s at 2 o line_span b is Comment None mark WithLf NoValue fed [] (bytes_of b at + 1) 0 true false
         (way_with_lf line_read (lexeme_as (2 + line_span.len) COMMENT 0 0 mark fed []) (omega (arith, n)) (rw f) (rw f) refl) refl
         (λ _. refl) refl
         (omega (arith, n, text_counted s at 2 o line_span b is)) refl
@@ -324,11 +328,11 @@ module _ (s : List ℕ) (at : ℕ) (first : get_or s at 0 ≡ 47) (mark : Bool) 
         ap (λ l. cond (eqb (peek (drop 1 l)) 47) (line_comment mark r (to_stop 10 (drop 2 l))) (general_comment mark r (to_star_slash false (drop 2 l))))
         (comment_chars s at 42 (omega arith) (omega arith) first second)
 
-    pub general_said : (error : ℕ) → cond b.closed 0 OPEN_COMMENT ≡ error
-        → said s at (body_as b 2 COMMENT error mark WithoutCr NoValue (bytes_of b at) 0 (differs_of b) false) ≡ placed s at (comment mark (chars (drop at s)))
+    pub general_said : (error : Option Fault) → cond b.closed 0 OPEN_COMMENT ≡ error_number error
+        → said s at (body_as b 2 Comment error mark (clean_as b at) no_value) ≡ placed s at (comment mark (chars (drop at s)))
     unfolding body_of
     general_said error e =
-        let c : cond general_span.closed 0 OPEN_COMMENT ≡ error = sym (ap (λ (x : Body). cond x.closed 0 OPEN_COMMENT) is) ∙ e in
+        let c : cond general_span.closed 0 OPEN_COMMENT ≡ error_number error = sym (ap (λ (x : Body). cond x.closed 0 OPEN_COMMENT) is) ∙ e in
         comment_said 42 (omega arith) (omega arith) second general_span is error
         ∙ ap (placed s at) (sym (general_lexeme ∙ rw c))
 

@@ -20,21 +20,25 @@ use Rattle.utf8.proofs.First.{chars_at, char_at_in, chars_le, first_fits, first_
 use Rattle.utf8.proofs.Places.{ascii_only, test_there, test_next, code_there}
 use Rattle.utf8.proofs.Runs.{run_bound, run_passes, run_no_feed}
 use Rattle.utf8.proofs.Encoding.{first_coded}
+use Rattle.std.specs.Prelude.{Option, None}
 use Rattle.kinds.specs.Kinds.{ILLEGAL, COMMENT, IDENT, STRING}
+use Rattle.kinds.specs.declared.kind.Kind.{Kind}
+use Rattle.kinds.specs.Number.{kind_number}
+use Rattle.errors.specs.declared.fault.Fault.{Fault}
+use Rattle.errors.specs.Faults.{error_number}
 use Rattle.kinds.specs.Table.{operators, ident_token, sets_mark}
 use Rattle.digits.specs.Digit.{is_decimal}
 use Rattle.words.specs.Word.{is_letter, is_word, word_len}
 use Rattle.words.proofs.Words.{letter_high, word_high, word_run, feed_no_word}
 use Rattle.quotes.proofs.Places.{stray_there}
 use Rattle.operators.specs.declared.Operator.{Operator}
-use Rattle.operators.specs.Longest.{begins, operator_of}
+use Rattle.operators.specs.Longest.{begins, operator_said, operator_of}
 use Rattle.operators.proofs.Bounds.{operator_bound, longest_ind}
-use Rattle.lexer.specs.declared.lexed.Text.TheVariants.{Empty, AsRead}
-use Rattle.lexer.specs.declared.lexed.Value.TheVariants.{Empty as NoValue}
+use Rattle.lexer.specs.declared.lexed.Text.TheVariants.{AsRead}
 use Rattle.lexer.specs.Lexeme.{shown, bare}
 use Rattle.lexer.specs.Words.{word_lexeme, lex_word}
 use Rattle.lexer.specs.Lex.{lex_illegal, lex_operator}
-use Rattle.lexer.specs.Made.{answer_with, made_at, shown_at, illegal_at}
+use Rattle.lexer.specs.Made.{shown_as, answer_with, bare_as, read_as, illegal_at}
 use Rattle.lexer.specs.Making.{is_number, is_raw, text_way}
 use Rattle.lexer.specs.Placed.{text_differs_in, placed, said}
 use Rattle.lexer.proofs.Known.{word_no_string, operator_no_string}
@@ -43,30 +47,27 @@ use Rattle.lexer.proofs.Ascii.{Ascii, ascii_none, ascii_facts}
 use Rattle.lexer.proofs.Ways.{way_read, decimal_high, word_starts}
 
 -- ---- tokens of n ASCII characters
-module _ (s : List ℕ) (at end n kind : ℕ) (mark : Bool) (a : Ascii n (chars (drop at s))) (e : end ≡ at + n) (k : kind ≢ STRING) where
-  read : end - at ≡ n
-  read = omega (arith, e)
-
-  pub bare_said : said s at (made_at kind at end mark Empty NoValue) ≡ placed s at (bare kind n mark)
+module _ (s : List ℕ) (at end n : ℕ) (kind : Kind) (mark : Bool) (a : Ascii n (chars (drop at s))) (e : end ≡ at + n) (k : kind_number kind ≢ STRING) where
+  pub bare_said : said s at (bare_as kind end n mark) ≡ placed s at (bare (kind_number kind) n mark)
   unfolding said placed same
   bare_said =
       let f = ascii_facts n s at a in
       alike
       (record {
-        lexeme = rw read;
+        lexeme = refl;
         end = rw f.width e;
         lfs = sym f.lfs;
         strays = sym f.strays;
         text_making = refl;
-        value_making = rw (ne_eqb kind STRING k);
+        value_making = rw (ne_eqb (kind_number kind) STRING k);
         text_length = refl;
         value_length = refl;
         text_differs = refl;
-        value_differs = rw (ne_eqb kind STRING k);
+        value_differs = rw (ne_eqb (kind_number kind) STRING k);
       })
 
-  pub shown_said : (error : ℕ) → 0 < n → eqb kind COMMENT ≡ false → is_number (take n (chars (drop at s))) ≡ false → is_raw (take n (chars (drop at s))) ≡ false
-      → said s at (answer_with error kind at end false mark AsRead NoValue (end - at)) ≡ placed s at (shown kind n (encoded (take n (chars (drop at s)))) error mark)
+  pub shown_said : (error : Option Fault) → 0 < n → eqb (kind_number kind) COMMENT ≡ false → is_number (take n (chars (drop at s))) ≡ false → is_raw (take n (chars (drop at s))) ≡ false
+      → said s at (answer_with error kind end n false mark (shown_as AsRead n false)) ≡ placed s at (shown (kind_number kind) n (encoded (take n (chars (drop at s)))) (error_number error) mark)
   unfolding said placed same
   shown_said error some no-comment no_number no-raw =
       let f = ascii_facts n s at a in
@@ -74,16 +75,16 @@ module _ (s : List ℕ) (at end n kind : ℕ) (mark : Bool) (a : Ascii n (chars 
       let text = encoded cs in
       alike
       (record {
-        lexeme = rw read;
+        lexeme = refl;
         end = rw f.width e;
         lfs = sym f.lfs;
         strays = sym f.strays;
-        text_making = way_read cs (shown kind n text error mark) (rw f.size some) no_number no-raw no-comment;
-        value_making = rw (ne_eqb kind STRING k);
-        text_length = rw (read, f.size) (add-zero n);
+        text_making = way_read cs (shown (kind_number kind) n text (error_number error) mark) (rw f.size some) no_number no-raw no-comment;
+        value_making = rw (ne_eqb (kind_number kind) STRING k);
+        text_length = rw f.size (add-zero n);
         value_length = refl;
         text_differs = sym (text_same text (take (widths (take n (chars (drop at s)))) (drop at s)) (rw f.width f.shown));
-        value_differs = rw (ne_eqb kind STRING k);
+        value_differs = rw (ne_eqb (kind_number kind) STRING k);
       })
 
 -- ---- words
@@ -100,34 +101,37 @@ unfolding word_lexeme
 keyword_is n word i =
     let k = ident_token word in sym (ap (λ t. cond t (shown IDENT n word 0 true) (bare k n (sets_mark k))) (ne_eqb k IDENT i))
 
-module _ (s : List ℕ) (at end kind : ℕ) (e : end ≡ at + word_len (chars (drop at s))) (is : kind ≡ ident_token (take (end - at) (take (length s - at) (drop at s)))) where
+module _ (s : List ℕ) (at end : ℕ) (kind : Kind) (e : end ≡ at + word_len (chars (drop at s))) (is : kind_number kind ≡ ident_token (take (end - at) (take (length s - at) (drop at s)))) where
   n : ℕ
   n = word_len (chars (drop at s))
 
   word : List ℕ
   word = encoded (take (word_len (chars (drop at s))) (chars (drop at s)))
 
-  word_kind : kind ≡ ident_token word
-  unfolding word
+  read : end - at ≡ n
+  unfolding n
+  read = omega (arith, e)
+
+  word_kind : kind_number kind ≡ ident_token word
+  unfolding n word
   word_kind =
       let r = chars (drop at s) in
-      let l : end - at ≡ word_len r = omega (arith, e) in
-      is ∙ rw (l, take_all (length s - at) (drop at s) (omega (arith, length-drop at s))) (ap ident_token (sym (ascii_facts (word_len r) s at (word_plain r)).shown))
+      is ∙ rw (read, take_all (length s - at) (drop at s) (omega (arith, length-drop at s))) (ap ident_token (sym (ascii_facts (word_len r) s at (word_plain r)).shown))
 
-  no_string : kind ≢ STRING
+  no_string : kind_number kind ≢ STRING
   no_string z = word_no_string word (sym word_kind ∙ z)
 
-  pub identifier_said : is_letter (get_or s at 0) ≡ true → kind ≡ IDENT → said s at (shown_at kind at end true) ≡ placed s at (lex_word (chars (drop at s)))
+  pub identifier_said : is_letter (get_or s at 0) ≡ true → kind_number kind ≡ IDENT → said s at (read_as kind end (end - at) true) ≡ placed s at (lex_word (chars (drop at s)))
   unfolding n word
   identifier_said l i =
       let w = word_starts (chars (drop at s)) (test_next s at is_letter letter_high ∙ l) in
-      shown_said s at end n kind true (word_plain (chars (drop at s))) e no_string 0 w.0 (rw i) w.1 w.2
+      rw read (shown_said s at end n kind true (word_plain (chars (drop at s))) e no_string None w.0 (rw i) w.1 w.2)
       ∙ ap (placed s at) (ap (λ k. shown k n word 0 true) word_kind ∙ identifier_is n word (sym word_kind ∙ i))
 
-  pub keyword_said : kind ≢ IDENT → said s at (made_at kind at end (sets_mark kind) Empty NoValue) ≡ placed s at (lex_word (chars (drop at s)))
+  pub keyword_said : kind_number kind ≢ IDENT → said s at (bare_as kind end (end - at) (sets_mark (kind_number kind))) ≡ placed s at (lex_word (chars (drop at s)))
   unfolding n word
   keyword_said i =
-      bare_said s at end n kind (sets_mark kind) (word_plain (chars (drop at s))) e no_string
+      rw read (bare_said s at end n kind (sets_mark (kind_number kind)) (word_plain (chars (drop at s))) e no_string)
       ∙ ap (placed s at) (ap (λ k. bare k n (sets_mark k)) word_kind ∙ keyword_is n word (λ z. i (word_kind ∙ z)))
 
 -- ---- operators: their spellings are ASCII without a line feed
@@ -155,22 +159,22 @@ operator_plain : (r : List Char) → Ascii (operator_of r).len r
 unfolding operators
 operator_plain r = longest_ind (λ x. Ascii x.len r) (λ row. plain row.name) r (ascii_none r) (λ row t. begins_plain row.name r t) operators tt
 
-module _ (s : List ℕ) (at : ℕ) (mark : Bool) (o : Operator) (is : o ≡ operator_of (chars (drop at s))) where
-  pub no_operator : o.kind ≡ ILLEGAL → lex_illegal mark 1 (chars (drop at s)) ≡ lex_operator mark (chars (drop at s))
+module _ (s : List ℕ) (at : ℕ) (mark : Bool) (o : Operator) (is : operator_said o ≡ operator_of (chars (drop at s))) where
+  pub no_operator : kind_number o.kind ≡ ILLEGAL → lex_illegal mark 1 (chars (drop at s)) ≡ lex_operator mark (chars (drop at s))
   unfolding lex_operator
-  no_operator i = rw (← is, eq-eqb o.kind ILLEGAL i)
+  no_operator i = rw (← is, eq-eqb (kind_number o.kind) ILLEGAL i)
 
   pub operator_fits : at ≤ length s → at + o.len ≤ length s
   operator_fits h =
       let r = chars (drop at s) in
-      rw is (omega (arith, operator_bound r, chars_le (drop at s), length-drop at s, h))
+      omega (arith, ap (λ x. x.len) is, operator_bound r, chars_le (drop at s), length-drop at s, h)
 
-  pub operator_said : o.kind ≢ ILLEGAL → said s at (made_at o.kind at (at + o.len) (sets_mark o.kind) Empty NoValue) ≡ placed s at (lex_operator mark (chars (drop at s)))
+  pub operator_token : kind_number o.kind ≢ ILLEGAL → said s at (bare_as o.kind (at + o.len) o.len (sets_mark (kind_number o.kind))) ≡ placed s at (lex_operator mark (chars (drop at s)))
   unfolding lex_operator
-  operator_said i =
+  operator_token i =
       let r = chars (drop at s) in
-      rw (← is, ne_eqb o.kind ILLEGAL i)
-      (bare_said s at (at + o.len) o.len o.kind (sets_mark o.kind) (rw is (operator_plain r)) refl (rw is (operator_no_string r)))
+      rw (← is, ne_eqb (kind_number o.kind) ILLEGAL i)
+      (bare_said s at (at + o.len) o.len o.kind (sets_mark (kind_number o.kind)) (rw (ap (λ x. x.len) is) (operator_plain r)) refl (rw (ap (λ x. x.kind) is) (operator_no_string r)))
 
 -- ---- one character that starts no token
 module _ (s : List ℕ) (at : ℕ) (h : at < length s) where
@@ -212,12 +216,11 @@ module _ (s : List ℕ) (at : ℕ) (h : at < length s) where
           strays = rw e (sym (add-zero _));
           text_making = first_way;
           value_making = refl;
-          text_length = exact_length (is_stray f) (at + f.width - at) (cond (is_stray f) 1 0) _ (rw (e, append-nil, stray_there s at h) (omega arith)) (λ t. rw t);
+          text_length = exact_length (is_stray f) f.width (cond (is_stray f) 1 0) _ (rw (e, append-nil, stray_there s at h) (omega arith)) (λ t. rw t);
           value_length = refl;
           text_differs = rw (e, add-zero) (sym differs);
           value_differs = refl;
         })
 
-    pub illegal_said : (c : Char) (stray : Bool) → c ≡ char_at s at → is_stray c ≡ stray
-        → said s at (illegal_at at c.width mark stray) ≡ placed s at (lex_illegal mark 1 (chars (drop at s)))
-    illegal_said c stray is t = rw (← t, is ∙ char_at_in s at h) first_said
+    pub illegal_said : (c : Char) → c ≡ char_at s at → said s at (illegal_at at c.width mark (is_stray c)) ≡ placed s at (lex_illegal mark 1 (chars (drop at s)))
+    illegal_said c is = rw (is ∙ char_at_in s at h) first_said

@@ -1,15 +1,18 @@
 -- Steps of the code. No public contract cites this file. The answers that the code makes.
-use Rattle.std.specs.Prelude.{ℕ, ◌+◌, ◌-◌, ◌<◌, ◌≡◌, Bool, true, false, cond, not, ◌||◌, List, eqb, length, get_or}
+use Rattle.std.specs.Prelude.{ℕ, ◌+◌, ◌-◌, ◌<◌, ◌≡◌, Bool, true, false, cond, not, ◌||◌, List, Option, Some, None, eqb, length, get_or}
 pub use Prim.Native.Char.{code}
-use Rattle.kinds.specs.Kinds.{ILLEGAL, SEMICOLON}
-use Rattle.errors.specs.Numbers.{UNKNOWN_TOKEN}
+use Rattle.kinds.specs.declared.kind.Kind.{Kind}
+use Rattle.kinds.specs.declared.kind.Kind.TheVariants.{Illegal, Semicolon}
+use Rattle.errors.specs.declared.fault.Fault.{Fault}
+use Rattle.errors.specs.declared.fault.Fault.TheVariants.{UnknownToken}
 use Rattle.digits.specs.Digit.{is_decimal}
 use Rattle.numbers.specs.declared.Spelling.{Spelling}
 use Rattle.numbers.specs.declared.Spelling.TheVariants.{AsRead as Same, LowerPrefix, OctalPrefix, LowerExponent}
 use Rattle.quotes.specs.declared.Quoted.{Quoted}
 use Rattle.spans.specs.declared.body.Body.{Body}
+use Rattle.lexer.specs.declared.lexed.Shown.{Shown}
 use Rattle.lexer.specs.declared.lexed.Text.{Text}
-use Rattle.lexer.specs.declared.lexed.Text.TheVariants.{Empty, AsRead}
+use Rattle.lexer.specs.declared.lexed.Text.TheVariants.{Empty, AsRead, WithoutCr}
 use Rattle.lexer.specs.declared.lexed.Value.{Value}
 use Rattle.lexer.specs.declared.lexed.Value.TheVariants.{Empty as NoValue}
 use Rattle.lexer.specs.declared.lexed.Lexed.{Lexed}
@@ -18,12 +21,22 @@ use Rattle.lexer.specs.declared.lexed.Lexed.{Lexed}
 abbrev pub StartsOther : List ℕ → ℕ → Type 0
 StartsOther s at = (at < length s) × (eqb (get_or s at 0) (code "\n") ≡ false) × (is_decimal (get_or s at 0) ≡ false) × (eqb (get_or s at 0) (code "`") ≡ false)
 
--- a token with all that may differ between tokens of ASCII characters, its error first
-abbrev pub answer_with : ℕ → ℕ → ℕ → ℕ → Bool → Bool → Text → Value → ℕ → Lexed
-answer_with error kind at end inserted mark text value bytes =
+-- a text or a value, how it is made, of so many bytes, and whether they are others than the source's
+abbrev pub shown_as : {A : Type 0} → A → ℕ → Bool → Shown A
+shown_as making bytes differs = record { making = making; bytes = bytes; differs = differs }
+
+abbrev pub no_text : Shown Text
+no_text = shown_as Empty 0 false
+
+abbrev pub no_value : Shown Value
+no_value = shown_as NoValue 0 false
+
+-- a token of ASCII characters, with all that may differ between such tokens
+abbrev pub answer_with : Option Fault → Kind → ℕ → ℕ → Bool → Bool → Shown Text → Lexed
+answer_with error kind end chars inserted mark text =
     record {
       end = end;
-      chars = end - at;
+      chars = chars;
       lfs = 0;
       strays = 0;
       kind = kind;
@@ -32,26 +45,19 @@ answer_with error kind at end inserted mark text value bytes =
       error = error;
       code = 0;
       text = text;
-      value = value;
-      text_bytes = bytes;
-      value_bytes = 0;
-      text_differs = false;
-      value_differs = false;
+      value = no_value;
     }
 
--- without an error
-abbrev pub answer : ℕ → ℕ → ℕ → Bool → Bool → Text → Value → ℕ → Lexed
-answer kind at end inserted mark text value bytes = answer_with 0 kind at end inserted mark text value bytes
+abbrev pub bare_as : Kind → ℕ → ℕ → Bool → Lexed
+bare_as kind end chars mark = answer_with None kind end chars false mark no_text
 
-abbrev pub made_at : ℕ → ℕ → ℕ → Bool → Text → Value → Lexed
-made_at kind at end mark text value = answer kind at end false mark text value 0
-
-abbrev pub shown_at : ℕ → ℕ → ℕ → Bool → Lexed
-shown_at kind at end mark = answer kind at end false mark AsRead NoValue (end - at)
+-- whose text is the characters read
+abbrev pub read_as : Kind → ℕ → ℕ → Bool → Lexed
+read_as kind end chars mark = answer_with None kind end chars false mark (shown_as AsRead chars false)
 
 -- characters that are no token
-abbrev pub unknown_at : ℕ → ℕ → Bool → Lexed
-unknown_at at end mark = answer_with UNKNOWN_TOKEN ILLEGAL at end false mark AsRead NoValue (end - at)
+abbrev pub unknown_as : ℕ → ℕ → Bool → Lexed
+unknown_as end chars mark = answer_with (Some UnknownToken) Illegal end chars false mark (shown_as AsRead chars false)
 
 -- one character, of so many bytes, that starts no token; it may be a stray byte
 abbrev pub illegal_at : ℕ → ℕ → Bool → Bool → Lexed
@@ -61,21 +67,17 @@ illegal_at at width mark stray =
       chars = 1;
       lfs = 0;
       strays = cond stray 1 0;
-      kind = ILLEGAL;
+      kind = Illegal;
       inserted = false;
       mark = mark;
-      error = UNKNOWN_TOKEN;
+      error = Some UnknownToken;
       code = 0;
-      text = AsRead;
-      value = NoValue;
-      text_bytes = at + width - at;
-      value_bytes = 0;
-      text_differs = stray;
-      value_differs = false;
+      text = shown_as AsRead width stray;
+      value = no_value;
     }
 
 abbrev pub inserted_at : ℕ → Lexed
-inserted_at at = answer SEMICOLON at at true false Empty NoValue 0
+inserted_at at = answer_with None Semicolon at 0 true false no_text
 
 -- how many bytes more than was read a number's text has, and whether it is another
 abbrev pub gained_by : Spelling → ℕ
@@ -90,30 +92,30 @@ respelled_by LowerPrefix = true
 respelled_by OctalPrefix = true
 respelled_by LowerExponent = true
 
--- a literal by its body
-abbrev pub quoted_as : Quoted → ℕ → ℕ → Value → Lexed
-quoted_as q at kind value =
+-- a literal by its body, of a kind, with its error
+abbrev pub quoted_as : Quoted → ℕ → Kind → Option Fault → Lexed
+quoted_as q at kind error =
     record {
       end = q.end;
-      chars = q.chars + 1;
+      chars = q.content.chars + 1;
       lfs = 0;
-      strays = q.strays;
+      strays = q.content.strays;
       kind = kind;
       inserted = false;
       mark = true;
-      error = q.error;
+      error = error;
       code = 0;
-      text = AsRead;
-      value = value;
-      text_bytes = q.end - at;
-      value_bytes = 0;
-      text_differs = not (eqb q.strays 0);
-      value_differs = false;
+      text = shown_as AsRead (q.end - at) (not (eqb q.content.strays 0));
+      value = no_value;
     }
 
+-- the text of a raw string or a comment by its body
+abbrev pub clean_as : Body → ℕ → Shown Text
+clean_as b at = shown_as WithoutCr (b.end - at - b.crs) (not (eqb b.crs 0) || not (eqb b.strays 0))
+
 -- a raw string or a comment by its body
-abbrev pub spanned_as : Body → ℕ → ℕ → ℕ → Bool → Text → Value → Lexed
-spanned_as b at opening kind mark text value =
+abbrev pub spanned_as : Body → ℕ → ℕ → Kind → Bool → Lexed
+spanned_as b at opening kind mark =
     record {
       end = b.end;
       chars = b.chars + opening;
@@ -122,12 +124,8 @@ spanned_as b at opening kind mark text value =
       kind = kind;
       inserted = false;
       mark = mark;
-      error = 0;
+      error = None;
       code = 0;
-      text = text;
-      value = value;
-      text_bytes = b.end - at - b.crs;
-      value_bytes = 0;
-      text_differs = not (eqb b.crs 0) || not (eqb b.strays 0);
-      value_differs = false;
+      text = clean_as b at;
+      value = no_value;
     }

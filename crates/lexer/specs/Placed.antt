@@ -6,7 +6,9 @@ use Rattle.basics.specs.Same.{same}
 use Rattle.utf8.specs.declared.Char.{Char}
 use Rattle.utf8.specs.Chars.{chars, widths, is_stray, encoded}
 use Rattle.kinds.specs.Kinds.{STRING}
+use Rattle.kinds.specs.Number.{kind_number}
 use Rattle.errors.specs.Numbers.{OPEN_RAW_STRING}
+use Rattle.errors.specs.Faults.{error_number}
 use Rattle.numbers.specs.Spelling.{number_text}
 use Rattle.quotes.specs.Body.{body}
 use Rattle.spans.specs.Span.{to_stop}
@@ -97,21 +99,21 @@ said s at x =
           record {
             skipped = 0;
             len = x.chars;
-            kind = x.kind;
+            kind = kind_number x.kind;
             inserted = x.inserted;
-            text = text_of x.text (take x.chars (chars (drop at s))) (take (x.end - at) (drop at s));
-            value = value_of x.value (chars (drop (at + 1) s));
+            text = text_of x.text.making (take x.chars (chars (drop at s))) (take (x.end - at) (drop at s));
+            value = value_of x.value.making (chars (drop (at + 1) s));
             code = x.code;
-            error = x.error;
+            error = error_number x.error;
             mark = x.mark;
           };
       end = x.end;
       lfs = x.lfs;
       strays = x.strays;
-      text_making = x.text;
-      value_making = x.value;
-      text_length = length_of x.text_bytes x.strays x.text_differs;
-      value_length = length_of x.value_bytes x.strays x.value_differs;
-      text_differs = x.text_differs;
-      value_differs = x.value_differs;
+      text_making = x.text.making;
+      value_making = x.value.making;
+      text_length = length_of x.text.bytes x.strays x.text.differs;
+      value_length = length_of x.value.bytes x.strays x.value.differs;
+      text_differs = x.text.differs;
+      value_differs = x.value.differs;
     }

@@ -6,30 +6,26 @@ ghost use Rattle.lexer.specs.Comments.{comment, lex_comment};
 ghost use Rattle.lexer.specs.Placed.{said, placed};
 ghost use Rattle.lexer.specs.Made.{code, spanned_as};
 
-use crate::lexed::{Lexed, Text, Value, inserted_semicolon, made};
+use crate::lexed::{Lexed, Shown, Text, Value, bare, inserted_semicolon};
+use errors::Fault;
+use kinds::Kind;
 
-// A token at a place by its body, which starts after `opening` characters; its text is without CR,
-// and its value is not counted yet.
-fn spanned(
-    b: spans::Body,
-    at: usize,
-    opening: usize,
-    kind: u8,
-    mark: bool,
-    text: Text,
-    value: Value,
-) -> Lexed
+// A token at a place by its body, which starts after `opening` characters; its text is without CR.
+fn spanned(b: spans::Body, at: usize, opening: usize, kind: Kind, mark: bool) -> Lexed
     requires { (at + b.crs ≤ b.end) × (b.chars + opening < 2 ^ 64) }
-    ensures { result ≡ spanned_as b at opening kind mark text value }
+    ensures { result ≡ spanned_as b at opening kind mark }
 {
-    let end = b.end;
-    let mut x = made(kind, at, end, mark, text, value);
-    x.chars = b.chars + opening;
-    x.lfs = b.lfs;
-    x.strays = b.strays;
-    x.text_bytes = end - at - b.crs;
-    x.text_differs = (b.crs != 0) | (b.strays != 0);
-    x
+    let text = Shown {
+        bytes: b.end - at - b.crs,
+        making: Text::WithoutCr,
+        differs: (b.crs != 0) | (b.strays != 0),
+    };
+    Lexed {
+        lfs: b.lfs,
+        strays: b.strays,
+        text,
+        ..bare(kind, b.end, b.chars + opening, mark)
+    }
 }
 
 // The raw string at a place that holds a backquote.
@@ -38,15 +34,18 @@ pub(crate) fn lex_raw(src: &[u8], at: usize) -> Lexed
     ensures { said src.now at result ≡ placed src.now at (lex_raw (chars (drop at src.now))) }
 {
     let b = spans::raw_body(src, at + 1);
-    let mut x = spanned(b, at, 1, kinds::STRING, true, Text::WithoutCr, Value::Raw);
-    x.value_differs = x.text_differs;
-    if b.closed {
-        x.value_bytes = x.text_bytes - 2;
-        return x;
-    }
-    x.value_bytes = x.text_bytes - 1;
-    x.error = errors::OPEN_RAW_STRING;
-    x
+    let x = spanned(b, at, 1, Kind::String, true);
+    let (quotes, error) = if b.closed {
+        (2, None)
+    } else {
+        (1, Some(Fault::OpenRawString))
+    };
+    let value = Shown {
+        bytes: x.text.bytes - quotes,
+        making: Value::Raw,
+        differs: x.text.differs,
+    };
+    Lexed { error, value, ..x }
 }
 
 // The line comment at a place that holds two slashes; one that is not closed gains a line feed.
@@ -55,21 +54,16 @@ fn line_comment(src: &[u8], at: usize, mark: bool) -> Lexed
     ensures { said src.now at result ≡ placed src.now at (comment mark (chars (drop at src.now))) }
 {
     let b = spans::line_body(src, at + 2);
+    let x = spanned(b, at, 2, Kind::Comment, mark);
     if b.closed {
-        return spanned(
-            b,
-            at,
-            2,
-            kinds::COMMENT,
-            mark,
-            Text::WithoutCr,
-            Value::Empty,
-        );
+        return x;
     }
-    let mut x = spanned(b, at, 2, kinds::COMMENT, mark, Text::WithLf, Value::Empty);
-    x.text_bytes = x.text_bytes + 1;
-    x.text_differs = true;
-    x
+    let text = Shown {
+        bytes: x.text.bytes + 1,
+        making: Text::WithLf,
+        differs: true,
+    };
+    Lexed { text, ..x }
 }
 
 // The general comment at a place that holds a slash and a star.
@@ -78,19 +72,14 @@ fn general_comment(src: &[u8], at: usize, mark: bool) -> Lexed
     ensures { said src.now at result ≡ placed src.now at (comment mark (chars (drop at src.now))) }
 {
     let b = spans::block_body(src, at + 2);
-    let mut x = spanned(
-        b,
-        at,
-        2,
-        kinds::COMMENT,
-        mark,
-        Text::WithoutCr,
-        Value::Empty,
-    );
-    if !b.closed {
-        x.error = errors::OPEN_COMMENT;
+    let x = spanned(b, at, 2, Kind::Comment, mark);
+    if b.closed {
+        return x;
     }
-    x
+    Lexed {
+        error: Some(Fault::OpenComment),
+        ..x
+    }
 }
 
 // The comment at a place, by the byte after its slash. One that ends the line is an inserted
@@ -105,10 +94,8 @@ pub(crate) fn lex_comment(src: &[u8], at: usize, second: u8, mark: bool) -> Lexe
         }
         return line_comment(src, at, mark);
     }
-    if mark {
-        if spans::ends_line(src, at + 2) {
-            return inserted_semicolon(at);
-        }
+    if mark && spans::ends_line(src, at + 2) {
+        return inserted_semicolon(at);
     }
     general_comment(src, at, mark)
 }

@@ -7,10 +7,15 @@ ghost use Rattle.lexer.specs.Placed.{said, placed};
 ghost use Rattle.lexer.specs.Made.{code, StartsOther};
 
 use crate::comments::{lex_comment, lex_raw};
-use crate::lexed::{Lexed, bare, inserted_semicolon, unknown_token};
+use crate::lexed::{Lexed, Shown, Text, bare, inserted_semicolon, unknown_token};
 use crate::number::lex_number;
 use crate::quoted::{lex_char, lex_string};
 use crate::word::lex_word;
+use kinds::Kind;
+
+// The source and a place stay two parameters, and what is known of the byte there is asked by name,
+// as StartsOther: a struct of both would be named in each contract and each call, and is no
+// plainer.
 
 // A single character that starts no token.
 fn lex_illegal(src: &[u8], at: usize, mark: bool) -> Lexed
@@ -18,13 +23,17 @@ fn lex_illegal(src: &[u8], at: usize, mark: bool) -> Lexed
     ensures { said src.now at result ≡ placed src.now at (lex_illegal mark 1 (chars (drop at src.now))) }
 {
     let c = reader::char_from(src, at);
-    let mut x = unknown_token(at, at + c.width, mark);
-    x.chars = 1;
-    if utf8::is_stray(c) {
-        x.strays = 1;
-        x.text_differs = true;
+    let stray = utf8::is_stray(c);
+    let text = Shown {
+        bytes: c.width,
+        making: Text::AsRead,
+        differs: stray,
+    };
+    Lexed {
+        strays: usize::from(stray),
+        text,
+        ..unknown_token(at + c.width, 1, mark)
     }
-    x
 }
 
 // The operator at a place, or a character that starts none.
@@ -33,51 +42,26 @@ fn lex_operator(src: &[u8], at: usize, mark: bool) -> Lexed
     ensures { said src.now at result ≡ placed src.now at (lex_operator mark (chars (drop at src.now))) }
 {
     let o = operators::scan_operator(src, at);
-    let kind = o.kind;
-    if kind == kinds::ILLEGAL {
+    if o.kind == Kind::Illegal {
         return lex_illegal(src, at, mark);
     }
-    bare(kind, at, at + o.len, kinds::sets_mark(kind))
-}
-
-// Does a number start with these two bytes? A point before a digit starts one.
-fn starts_number(first: u8, second: u8) -> bool
-    ensures { result ≡ is_decimal first || (eqb first (code ".") && is_decimal second) }
-{
-    if digits::is_decimal(first) {
-        return true;
-    }
-    if first == b'.' {
-        return digits::is_decimal(second);
-    }
-    false
+    bare(o.kind, at + o.len, o.len, kinds::sets_mark(o.kind as u8))
 }
 
 // Does a comment start with these two bytes?
 fn starts_comment(first: u8, second: u8) -> bool
     ensures { result ≡ eqb first (code "/") && (eqb second (code "/") || eqb second (code "*")) }
 {
-    if first != b'/' {
-        return false;
-    }
-    if second == b'/' {
-        return true;
-    }
-    second == b'*'
+    first == b'/' && matches!(second, b'/' | b'*')
 }
 
 // Are there two points at a place, and no third?
 fn is_two_points(src: &[u8], at: usize) -> bool
-    requires { at < length src.now }
     ensures { result ≡ eqb (get_or src.now at 0) (code ".") && (eqb (get_or src.now (at + 1) 0) (code ".") && not (eqb (get_or src.now (at + 2) 0) (code "."))) }
 {
-    if utf8::byte(src, at) != b'.' {
-        return false;
-    }
-    if utf8::byte(src, at + 1) != b'.' {
-        return false;
-    }
-    utf8::byte(src, at + 2) != b'.'
+    utf8::byte(src, at) == b'.'
+        && utf8::byte(src, at + 1) == b'.'
+        && utf8::byte(src, at + 2) != b'.'
 }
 
 // A token that is no word, number or literal: a comment, two points, or an operator.
@@ -90,7 +74,7 @@ fn lex_other(src: &[u8], at: usize, second: u8, mark: bool) -> Lexed
         return lex_comment(src, at, second, mark);
     }
     if is_two_points(src, at) {
-        return unknown_token(at, at + 2, mark);
+        return unknown_token(at + 2, 2, mark);
     }
     lex_operator(src, at, mark)
 }
@@ -103,14 +87,14 @@ pub fn lex_token(src: &[u8], at: usize, mark: bool) -> Lexed
         if mark {
             return inserted_semicolon(at);
         }
-        return bare(kinds::EOF, at, at, false);
+        return bare(Kind::Eof, at, 0, false);
     }
     let first = src[at];
     let second = utf8::byte(src, at + 1);
     if words::is_letter(first) {
         return lex_word(src, at);
     }
-    if starts_number(first, second) {
+    if numbers::starts_number(first, second) {
         return lex_number(src, at);
     }
     match first {

@@ -1,8 +1,10 @@
 // What is said of a token that was read, and the tokens of ASCII characters alone.
-ghost use Rattle.std.specs.Prelude.{◌≡◌, ◌≤◌};
+ghost use Rattle.std.specs.Prelude.{◌≡◌, false};
 ghost use Rattle.lexer.specs.declared.lexed.Text.TheVariants.{Empty};
-ghost use Rattle.lexer.specs.declared.lexed.Value.TheVariants.{Empty as NoValue};
-ghost use Rattle.lexer.specs.Made.{made_at, shown_at, unknown_at, inserted_at};
+ghost use Rattle.lexer.specs.Made.{bare_as, read_as, unknown_as, inserted_at, shown_as};
+
+use errors::Fault;
+use kinds::Kind;
 
 // How the text of a token is made of the characters read.
 #[derive(Clone, Copy)]
@@ -24,6 +26,17 @@ pub enum Value {
     Raw,
 }
 
+// What is shown of a token: its text or its value.
+#[derive(Clone, Copy)]
+pub struct Shown<T> {
+    // how many bytes it has; a stray byte in one that differs from the source's bytes counts once,
+    // though it is written in three: so the number always fits
+    pub bytes: usize,
+    pub making: T,
+    // is it other bytes than those of the source?
+    pub differs: bool,
+}
+
 // A token that was read at a place.
 #[derive(Clone, Copy)]
 pub struct Lexed {
@@ -33,83 +46,77 @@ pub struct Lexed {
     pub chars: usize,
     pub lfs: usize,
     pub strays: usize,
-    pub kind: u8,
+    pub kind: Kind,
     // a semicolon that is not in the text
     pub inserted: bool,
     // the pending mark that it leaves
     pub mark: bool,
-    // the number of its error, or 0
-    pub error: u8,
-    // the code point of a CHAR
+    pub error: Option<Fault>,
+    // the code point of a CHAR, and 0 of any other token: a number, as the tokens for C have it
     pub code: u32,
-    pub text: Text,
-    pub value: Value,
-    // how many bytes text and value have; a stray byte in one that differs from the source's bytes
-    // counts once, though it is written in three: so the numbers always fit
-    pub text_bytes: usize,
-    pub value_bytes: usize,
-    // are they other bytes than those of the source?
-    pub text_differs: bool,
-    pub value_differs: bool,
+    pub text: Shown<Text>,
+    pub value: Shown<Value>,
 }
 
-// A token of ASCII characters, no line feed among them; its text and value are not counted yet.
-pub(crate) fn made(kind: u8, at: usize, end: usize, mark: bool, text: Text, value: Value) -> Lexed
-    requires { at ≤ end }
-    ensures { result ≡ made_at kind at end mark text value }
+// A token without a text, of ASCII characters, no line feed among them, by the place after it: an
+// operator, a keyword, the end.
+pub(crate) fn bare(kind: Kind, end: usize, chars: usize, mark: bool) -> Lexed
+    ensures { result ≡ bare_as kind end chars mark }
 {
     Lexed {
         end,
-        chars: end - at,
+        chars,
         lfs: 0,
         strays: 0,
         kind,
         inserted: false,
         mark,
-        error: 0,
+        error: None,
         code: 0,
-        text,
-        value,
-        text_bytes: 0,
-        value_bytes: 0,
-        text_differs: false,
-        value_differs: false,
+        text: Shown {
+            bytes: 0,
+            making: Text::Empty,
+            differs: false,
+        },
+        value: Shown {
+            bytes: 0,
+            making: Value::Empty,
+            differs: false,
+        },
     }
 }
 
-// A token without a text: an operator, a keyword, the end.
-pub(crate) fn bare(kind: u8, at: usize, end: usize, mark: bool) -> Lexed
-    requires { at ≤ end }
-    ensures { result ≡ made_at kind at end mark Empty NoValue }
-{
-    made(kind, at, end, mark, Text::Empty, Value::Empty)
-}
-
 // A token whose text is the ASCII characters read.
-pub(crate) fn shown(kind: u8, at: usize, end: usize, mark: bool) -> Lexed
-    requires { at ≤ end }
-    ensures { result ≡ shown_at kind at end mark }
+pub(crate) fn as_read(kind: Kind, end: usize, chars: usize, mark: bool) -> Lexed
+    ensures { result ≡ read_as kind end chars mark }
 {
-    let mut x = made(kind, at, end, mark, Text::AsRead, Value::Empty);
-    x.text_bytes = end - at;
-    x
+    let text = Shown {
+        bytes: chars,
+        making: Text::AsRead,
+        differs: false,
+    };
+    Lexed {
+        text,
+        ..bare(kind, end, chars, mark)
+    }
 }
 
 // ASCII characters that are no token.
-pub(crate) fn unknown_token(at: usize, end: usize, mark: bool) -> Lexed
-    requires { at ≤ end }
-    ensures { result ≡ unknown_at at end mark }
+pub(crate) fn unknown_token(end: usize, chars: usize, mark: bool) -> Lexed
+    ensures { result ≡ unknown_as end chars mark }
 {
-    let mut x = shown(kinds::ILLEGAL, at, end, mark);
-    x.error = errors::UNKNOWN_TOKEN;
-    x
+    Lexed {
+        error: Some(Fault::UnknownToken),
+        ..as_read(Kind::Illegal, end, chars, mark)
+    }
 }
 
 // A semicolon that is not in the text.
 pub(crate) fn inserted_semicolon(at: usize) -> Lexed
     ensures { result ≡ inserted_at at }
 {
-    let mut x = bare(kinds::SEMICOLON, at, at, false);
-    x.inserted = true;
-    x
+    Lexed {
+        inserted: true,
+        ..bare(Kind::Semicolon, at, 0, false)
+    }
 }

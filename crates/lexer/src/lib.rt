@@ -9,4 +9,4 @@ mod quoted;
 mod word;
 
 pub use lex::lex_token;
-pub use lexed::{Lexed, Text, Value};
+pub use lexed::{Lexed, Shown, Text, Value};

@@ -6,30 +6,25 @@ ghost use Rattle.lexer.specs.Making.{is_number};
 ghost use Rattle.lexer.specs.Placed.{said, placed};
 ghost use Rattle.lexer.specs.Made.{gained_by, respelled_by};
 
-use crate::lexed::{Lexed, Text, Value, made};
+use crate::lexed::{Lexed, Shown, Text, bare};
+use numbers::Spelling;
 
 // How many bytes the text of a number has more than was read.
-fn gained(spelling: numbers::Spelling) -> usize
+fn gained(spelling: Spelling) -> usize
     ensures { result ≡ gained_by spelling }
 {
-    match spelling {
-        numbers::Spelling::AsRead => 0,
-        numbers::Spelling::LowerPrefix => 0,
-        numbers::Spelling::OctalPrefix => 1,
-        numbers::Spelling::LowerExponent => 0,
+    if matches!(spelling, Spelling::OctalPrefix) {
+        1
+    } else {
+        0
     }
 }
 
 // Is the text of a number other than what was read?
-fn respelled(spelling: numbers::Spelling) -> bool
+fn respelled(spelling: Spelling) -> bool
     ensures { result ≡ respelled_by spelling }
 {
-    match spelling {
-        numbers::Spelling::AsRead => false,
-        numbers::Spelling::LowerPrefix => true,
-        numbers::Spelling::OctalPrefix => true,
-        numbers::Spelling::LowerExponent => true,
-    }
+    !matches!(spelling, Spelling::AsRead)
 }
 
 // The number at a place that holds a digit, or a point before one.
@@ -38,11 +33,15 @@ pub(crate) fn lex_number(src: &[u8], at: usize) -> Lexed
     ensures { said src.now at result ≡ placed src.now at (lex_number (chars (drop at src.now))) }
 {
     let n = numbers::scan_number(src, at);
-    let end = n.end;
-    let spelling = n.spelling;
-    let mut x = made(n.kind, at, end, true, Text::Number(spelling), Value::Empty);
-    x.error = n.error;
-    x.text_bytes = end - at + gained(spelling);
-    x.text_differs = respelled(spelling);
-    x
+    let chars = n.end - at;
+    let text = Shown {
+        bytes: chars + gained(n.spelling),
+        making: Text::Number(n.spelling),
+        differs: respelled(n.spelling),
+    };
+    Lexed {
+        error: n.error,
+        text,
+        ..bare(n.kind, n.end, chars, true)
+    }
 }

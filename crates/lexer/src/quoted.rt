@@ -5,21 +5,27 @@ ghost use Rattle.lexer.specs.Quotes.{lex_string, lex_char};
 ghost use Rattle.lexer.specs.Placed.{said, placed};
 ghost use Rattle.lexer.specs.Made.{code, quoted_as};
 
-use crate::lexed::{Lexed, Text, Value, made};
+use crate::lexed::{Lexed, Shown, Text, Value, bare};
+use errors::Fault;
+use kinds::Kind;
+use quotes::Quoted;
 
-// A literal at a place by its body; its text is what was read, and its value is not counted yet.
-fn literal(q: quotes::Quoted, at: usize, kind: u8, value: Value) -> Lexed
-    requires { (at ≤ q.end) × (suc q.chars < 2 ^ 64) }
-    ensures { result ≡ quoted_as q at kind value }
+// A literal at a place by its body; its text is what was read.
+fn literal(q: Quoted, at: usize, kind: Kind, error: Option<Fault>) -> Lexed
+    requires { (at ≤ q.end) × (suc q.content.chars < 2 ^ 64) }
+    ensures { result ≡ quoted_as q at kind error }
 {
-    let end = q.end;
-    let mut x = made(kind, at, end, true, Text::AsRead, value);
-    x.chars = q.chars + 1;
-    x.strays = q.strays;
-    x.error = q.error;
-    x.text_bytes = end - at;
-    x.text_differs = q.strays != 0;
-    x
+    let text = Shown {
+        bytes: q.end - at,
+        making: Text::AsRead,
+        differs: q.content.strays != 0,
+    };
+    Lexed {
+        strays: q.content.strays,
+        error,
+        text,
+        ..bare(kind, q.end, q.content.chars + 1, true)
+    }
 }
 
 // The string at a place that holds a double quote.
@@ -28,13 +34,16 @@ pub(crate) fn lex_string(src: &[u8], at: usize) -> Lexed
     ensures { said src.now at result ≡ placed src.now at (lex_string (chars (drop at src.now))) }
 {
     let q = quotes::string_body(src, at + 1);
-    if !q.closed {
-        return literal(q, at, kinds::ILLEGAL, Value::Empty);
+    if q.error.is_some() {
+        return literal(q, at, Kind::Illegal, q.error);
     }
-    let mut x = literal(q, at, kinds::STRING, Value::Interpreted);
-    x.value_bytes = q.bytes;
-    x.value_differs = q.escaped | x.text_differs;
-    x
+    let x = literal(q, at, Kind::String, None);
+    let value = Shown {
+        bytes: q.content.bytes,
+        making: Value::Interpreted,
+        differs: q.content.escaped | x.text.differs,
+    };
+    Lexed { value, ..x }
 }
 
 // The character literal at a place that holds a single quote.
@@ -43,15 +52,14 @@ pub(crate) fn lex_char(src: &[u8], at: usize) -> Lexed
     ensures { said src.now at result ≡ placed src.now at (lex_char (chars (drop at src.now))) }
 {
     let q = quotes::char_body(src, at + 1);
-    if !q.closed {
-        return literal(q, at, kinds::ILLEGAL, Value::Empty);
+    if q.error.is_some() {
+        return literal(q, at, Kind::Illegal, q.error);
     }
-    if q.count != 1 {
-        let mut x = literal(q, at, kinds::ILLEGAL, Value::Empty);
-        x.error = errors::NOT_ONE_CHARACTER;
-        return x;
+    if q.content.count != 1 {
+        return literal(q, at, Kind::Illegal, Some(Fault::NotOneCharacter));
     }
-    let mut x = literal(q, at, kinds::CHAR, Value::Empty);
-    x.code = q.code;
-    x
+    Lexed {
+        code: q.content.code,
+        ..literal(q, at, Kind::Char, None)
+    }
 }

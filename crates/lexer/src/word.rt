@@ -5,7 +5,8 @@ ghost use Rattle.words.specs.Word.{is_letter};
 ghost use Rattle.lexer.specs.Words.{lex_word};
 ghost use Rattle.lexer.specs.Placed.{said, placed};
 
-use crate::lexed::{Lexed, bare, shown};
+use crate::lexed::{Lexed, as_read, bare};
+use kinds::Kind;
 
 // The word at a place that holds a letter.
 pub(crate) fn lex_word(src: &[u8], at: usize) -> Lexed
@@ -13,9 +14,10 @@ pub(crate) fn lex_word(src: &[u8], at: usize) -> Lexed
     ensures { said src.now at result ≡ placed src.now at (lex_word (chars (drop at src.now))) }
 {
     let end = words::word_end(src, at);
-    let kind = keywords::ident_token(&src[at..], end - at);
-    if kind == kinds::IDENT {
-        return shown(kind, at, end, true);
+    let len = end - at;
+    let kind = keywords::ident_token(&src[at..], len);
+    if kind == Kind::Ident {
+        return as_read(kind, end, len, true);
     }
-    bare(kind, at, end, kinds::sets_mark(kind))
+    bare(kind, end, len, kinds::sets_mark(kind as u8))
 }

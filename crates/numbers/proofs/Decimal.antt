@@ -16,10 +16,9 @@ use Rattle.basics.proofs.Lists.{reach}
 use Rattle.utf8.specs.Chars.{chars}
 use Rattle.kinds.specs.Kinds.{INT}
 use Rattle.digits.specs.Digit.{digit_val, is_decimal}
-use Rattle.numbers.specs.declared.Number.{Number}
 use Rattle.numbers.specs.declared.Spelling.TheVariants.{AsRead}
 use Rattle.numbers.specs.Run.{Run, longer_run, digit_run}
-use Rattle.numbers.specs.Number.{decimal, bare_zero, zero_by, without_i, number, number_at}
+use Rattle.numbers.specs.Number.{NumberSaid, decimal, bare_zero, zero_by, without_i, number, number_at}
 use Rattle.numbers.proofs.Runs.{run_end, run_digit, run_other}
 use Rattle.numbers.proofs.Numerals.{finish_end, rest_plain, decimal_good, octal_is, bare_decimal, zero_is, without_zero, without_other}
 use Rattle.numbers.proofs.Placed.{number_other}
@@ -64,7 +63,7 @@ module _ (s : List ℕ) (at end : ℕ) (some : at < end) (all : (p : ℕ) → at
   run_is : digit_run 10 false (chars (drop at s)) ≡ record { len = end - at; misplaced = false }
   run_is = run_of s (end - at) at end (omega arith) all no_digit (none_of (code "_") refl)
 
-  abbrev Integer : Number
+  abbrev Integer : NumberSaid
   Integer = record { kind = INT; end = end; error = 0; spelling = AsRead }
 
   decimal_is : number_at at (decimal (chars (drop at s))) ≡ Integer
@@ -101,6 +100,6 @@ module _ (s : List ℕ) (at end : ℕ) (some : at < end) (all : (p : ℕ) → at
 
     pub integer_is : number_at at (number (chars (drop at s))) ≡ record { kind = INT; end = end; error = 0; spelling = AsRead }
     integer_is =
-        let kind = ap (λ (x : Number). x.kind) without_is in
-        let reached = ap (λ (x : Number). x.end) without_is in
+        let kind = ap (λ (x : NumberSaid). x.kind) without_is in
+        let reached = ap (λ (x : NumberSaid). x.end) without_is in
         number_other s at (λ e. omega (arith, kind, e)) (λ e. none_of (code "i") refl (ap (λ p. get_or s p 0) (sym reached) ∙ e)) ∙ without_is

@@ -6,7 +6,7 @@ use mathlib.Core.Bool.{Bool, true, false, not, ◌&&◌, ◌||◌}
 use mathlib.Core.List.{List}
 use mathlib.Core.Logic.{⊎_elim}
 use native.Mathlib.Omega.{arith}
-use native.Mathlib.Nat.{add-zero, add_assoc}
+use native.Mathlib.Nat.{add-zero, zero-add, add_assoc}
 use lib.Dec.{leb, eqb, lit<, lit≤}
 use lib.ListN.{get_or, drop}
 use lib.Seq.{drop-drop}
@@ -15,7 +15,7 @@ use Rattle.basics.proofs.Choice.{above_it, either}
 use Rattle.utf8.specs.Chars.{chars, peek}
 use Rattle.utf8.proofs.Places.{code_next, test_next}
 use Rattle.kinds.specs.Kinds.{ILLEGAL, INT, FLOAT}
-use Rattle.errors.specs.Numbers.{BAD_OCTAL, MISPLACED_UNDERSCORE, BAD_EXPONENT}
+use Rattle.errors.specs.Numbers.{BAD_OCTAL, MISPLACED_UNDERSCORE}
 use Rattle.digits.specs.Digit.{is_decimal}
 use Rattle.numbers.specs.declared.Spelling.{Spelling}
 use Rattle.numbers.specs.declared.Spelling.TheVariants.{AsRead, OctalPrefix, LowerExponent}
@@ -42,18 +42,6 @@ decimal_high c h =
 
 decimal_next : (s : List ℕ) (p : ℕ) → makes_decimal (peek (chars (drop p s))) ≡ makes_decimal (get_or s p 0)
 decimal_next s p = test_next s p makes_decimal decimal_high
-
--- ---- the digits of an exponent
-module _ (at : ℕ) (s : Spelling) (d : Run) where
-  pub exponent_bad : d.misplaced ≡ true → number_at at (exponent_digits s d) ≡ record { kind = ILLEGAL; end = at + d.len; error = MISPLACED_UNDERSCORE; spelling = s }
-  exponent_bad e = rw e
-
-  module _ (good : d.misplaced ≡ false) where
-    pub exponent_none : d.len ≡ 0 → number_at at (exponent_digits s d) ≡ record { kind = ILLEGAL; end = at + d.len; error = BAD_EXPONENT; spelling = s }
-    exponent_none e = rw (good, e)
-
-    pub exponent_good : (d.len ≡ 0 → ⊥) → number_at at (exponent_digits s d) ≡ record { kind = FLOAT; end = at + d.len; error = 0; spelling = s }
-    exponent_good e = rw (good, ne_eqb _ _ e)
 
 -- ---- after a prefix
 module _ (base error : ℕ) (s : Spelling) (at : ℕ) (d : Run) (next : ℕ) where
@@ -210,3 +198,7 @@ module _ (s : List ℕ) (at : ℕ) where
   pub without_other : (get_or s at 0 ≡ code "." → ⊥) → (get_or s at 0 ≡ code "0" → ⊥) → number_at at (without_i (chars (drop at s))) ≡ number_at at (decimal (chars (drop at s)))
   unfolding without_i
   without_other e f = rw (next_not (code ".") (lit< tt) e, next_not (code "0") (lit< tt) f)
+
+-- the same of a text that starts with a 0
+pub octal_first : (s : List ℕ) → get_or s 0 0 ≡ code "0" → is_bare_octal (chars s) ≡ is_digit_or_underscore (get_or s 1 0) && not (makes_decimal (get_or s (run_len (chars s)) 0))
+octal_first s e = octal_is s 0 e ∙ rw (zero-add (run_len (chars s)))

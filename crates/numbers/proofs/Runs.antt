@@ -1,16 +1,18 @@
 -- Laws of runs of digits: one step at a place of a text, by the byte there.
 use Prim.Native.Nat.{ℕ, zero, suc, ◌+◌, ◌≤◌, ◌<◌}
 use Prim.Native.Char.{code}
-use mathlib.Core.Path.{◌≡◌}
-use mathlib.Core.Bool.{Bool, true, false}
+use mathlib.Core.Path.{◌≡◌, refl, sym, ap, ◌∙◌}
+use mathlib.Core.Bool.{Bool, true, false, cond, not, ◌&&◌, and-true, false≢true}
+use Rattle.std.specs.List.{position_or_len}
+use Rattle.std.proofs.lemmas.List.Recursion.{is_position_or_len}
+use Rattle.std.specs.Prelude.{Result, Ok, Err}
 use mathlib.Core.List.{List, [], ◌∷◌}
 use mathlib.Core.Logic.{◌≢◌, ⊎_elim}
 use native.Mathlib.Omega.{arith}
-use native.Mathlib.Nat.{add-zero}
 use native.Mathlib.Decide.{dec_lt}
 use lib.Dec.{ltb, eqb, eqb→eq, lit<}
 use lib.ListN.{length, get_or, drop}
-use borrow.Author.Tests.{ltb-true, lt-ltb, le-ltb, eqb-true, eq-eqb, ne_eqb}
+use borrow.Author.Tests.{ltb-true, lt-ltb, le-ltb, eqb-true, eqb-false, eq-eqb, ne_eqb}
 use Rattle.basics.proofs.Choice.{cond_ind, either, between_true, above_it}
 use Rattle.basics.proofs.Every.{every_below}
 use Rattle.basics.proofs.Lists.{reach}
@@ -20,6 +22,7 @@ use Rattle.utf8.proofs.First.{chars_at, chars_end, chars_ascii}
 use Rattle.utf8.proofs.Places.{code_there, test_there, test_next, ascii_place}
 use Rattle.digits.specs.Digit.{digit_val, is_decimal}
 use Rattle.digits.proofs.Digits.{digit_low, digit_there}
+use Rattle.numbers.specs.declared.run.Misplaced.{Misplaced}
 use Rattle.numbers.specs.Run.{Run, end_of_run, longer_run, digit_run, strict_run, is_digit_or_underscore, run_len}
 use Rattle.numbers.specs.Steps.{digits_at}
 
@@ -27,8 +30,30 @@ use Rattle.numbers.specs.Steps.{digits_at}
 pub digits_more : (p : ℕ) (d : Run) → digits_at p (longer_run d) ≡ digits_at (p + 1) d
 digits_more p d = let e : p + suc d.len ≡ p + 1 + d.len = omega arith in rw e
 
-pub digits_stop : (p : ℕ) (u : Bool) → digits_at p (end_of_run u) ≡ record { end = p; misplaced = u }
-digits_stop p u = rw (add-zero p)
+-- what an answer says of the run
+is_err : Result ℕ Misplaced → Bool
+is_err (Ok n) = false
+is_err (Err m) = true
+
+end_in : Result ℕ Misplaced → ℕ
+end_in (Ok n) = n
+end_in (Err m) = m.end
+
+pub run_err : (at : ℕ) (d : Run) (m : Misplaced) → ◌≡◌ {A = Result ℕ Misplaced} (Err m) (digits_at at d) → (d.misplaced ≡ true) × (m.end ≡ at + d.len)
+unfolding is_err end_in
+run_err at d m = go d.misplaced
+  where
+    go : (x : Bool) → ◌≡◌ {A = Result ℕ Misplaced} (Err m) (cond x (Err (record { end = at + d.len })) (Ok (at + d.len))) → (x ≡ true) × (m.end ≡ at + d.len)
+    go true e = (refl, ap end_in e)
+    go false e = absurd (false≢true (sym (ap is_err e)))
+
+pub run_ok : (at : ℕ) (d : Run) (n : ℕ) → ◌≡◌ {A = Result ℕ Misplaced} (Ok n) (digits_at at d) → (d.misplaced ≡ false) × (n ≡ at + d.len)
+unfolding is_err end_in
+run_ok at d n = go d.misplaced
+  where
+    go : (x : Bool) → ◌≡◌ {A = Result ℕ Misplaced} (Ok n) (cond x (Err (record { end = at + d.len })) (Ok (at + d.len))) → (x ≡ false) × (n ≡ at + d.len)
+    go true e = absurd (false≢true (ap is_err e))
+    go false e = (refl, ap end_in e)
 
 module _ (base : ℕ) (s : List ℕ) (p : ℕ) where
   pub run_end : (u : Bool) → length s ≤ p → digit_run base u (chars (drop p s)) ≡ end_of_run u
@@ -56,6 +81,13 @@ module _ (base : ℕ) (s : List ℕ) (p : ℕ) where
         pub run_double : digit_run base true (chars (drop p s)) ≡ end_of_run true
         unfolding digit_run
         run_double = rw (chars_ascii s p h under_low, le-ltb _ _ d, eq-eqb _ _ e)
+
+    -- the run stops at a byte that is no digit, and an underscore only after another
+    pub run_stop : (u : Bool) → base ≤ digit_val (get_or s p 0) → eqb (get_or s p 0) (code "_") && not u ≡ false → digit_run base u (chars (drop p s)) ≡ end_of_run u
+    run_stop true d f =
+        ⊎_elim (λ (e : eqb (get_or s p 0) (code "_") ≡ true). run_double d (eqb-true (get_or s p 0) (code "_") e))
+        (λ (e : eqb (get_or s p 0) (code "_") ≡ false). run_other d true (eqb-false (get_or s p 0) (code "_") e)) (either (eqb (get_or s p 0) (code "_")))
+    run_stop false d f = run_other d false (eqb-false (get_or s p 0) (code "_") (rw (and-true (eqb (get_or s p 0) (code "_"))) at f))
 
 -- where no underscore may stand first
 module _ (base : ℕ) (s : List ℕ) (p : ℕ) where
@@ -178,3 +210,15 @@ longest_plain (c ∷ r) =
 
 pub longest_place : (s : List ℕ) (p : ℕ) → drop (run_len (chars (drop p s))) (chars (drop p s)) ≡ chars (drop (p + run_len (chars (drop p s))) s)
 longest_place s p = plain_place _ s p (longest_plain (chars (drop p s)))
+
+-- as a search over the bytes has it
+one_more : (n : ℕ) → suc n ≡ 1 + n
+one_more n = omega arith
+
+longest_step : (b : ℕ) (t : List ℕ) → run_len (chars (b ∷ t)) ≡ cond (not (is_digit_or_underscore b)) 0 (1 + run_len (chars t))
+longest_step b t =
+    ⊎_elim (λ (e : is_digit_or_underscore b ≡ true). rw e (longest_more (b ∷ t) 0 e ∙ one_more (run_len (chars t))))
+    (λ (e : is_digit_or_underscore b ≡ false). rw e (longest_stop (b ∷ t) 0 e)) (either (is_digit_or_underscore b))
+
+pub longest_is : (t : List ℕ) → run_len (chars t) ≡ position_or_len (λ b. not (is_digit_or_underscore b)) t
+longest_is t = is_position_or_len (λ t. run_len (chars t)) (λ b. not (is_digit_or_underscore b)) (longest_stop [] 0 refl) longest_step t

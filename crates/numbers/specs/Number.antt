@@ -7,6 +7,8 @@ use Rattle.utf8.specs.Chars.{peek}
 use Rattle.kinds.specs.Kinds.{ILLEGAL, INT, FLOAT, IMAG}
 use Rattle.errors.specs.Numbers.{BAD_BINARY, BAD_OCTAL, BAD_HEXADECIMAL, MISPLACED_UNDERSCORE, BAD_EXPONENT}
 use Rattle.digits.specs.Digit.{is_decimal}
+use Rattle.kinds.specs.Number.{kind_number}
+use Rattle.errors.specs.Faults.{error_number}
 use Rattle.numbers.specs.declared.Number.{Number}
 use Rattle.numbers.specs.declared.Spelling.{Spelling}
 use Rattle.numbers.specs.declared.Spelling.TheVariants.{AsRead, LowerPrefix, OctalPrefix, LowerExponent}
@@ -118,6 +120,17 @@ starts_number first second = is_decimal first || (eqb first (code ".") && is_dec
 unfoldable pub number : List Char → Numeral
 number r = imaginary (without_i r) (peek (drop (without_i r).len r))
 
--- a number that starts at a place, as the code gives it
-abbrev pub number_at : ℕ → Numeral → Number
+-- ---- a number that starts at a place: its kind and its error by number, and the place after it
+pub record NumberSaid : Type 0 where
+  pub kind : ℕ
+  pub end : ℕ
+  pub error : ℕ
+  pub spelling : Spelling
+
+-- as the code gives it
+abbrev pub number_said : Number → NumberSaid
+number_said n = record { kind = kind_number n.kind; end = n.end; error = error_number n.error; spelling = n.spelling }
+
+-- as the definition has it
+abbrev pub number_at : ℕ → Numeral → NumberSaid
 number_at at x = record { kind = x.kind; end = at + x.len; error = x.error; spelling = x.spelling }

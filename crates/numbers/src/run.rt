@@ -1,62 +1,62 @@
 // Runs of digits with underscores between.
-ghost use Rattle.std.specs.Prelude.{◌≡◌, false, ◌+◌, ◌≤◌, drop};
+ghost use Rattle.std.specs.Prelude.{◌≡◌, false, drop, ltb};
 ghost use Rattle.utf8.specs.Chars.{chars};
-ghost use Rattle.numbers.specs.Run.{digit_run, strict_run, is_digit_or_underscore, run_len};
+ghost use Rattle.digits.specs.Digit.{digit_val};
+ghost use Rattle.digits.specs.Base.{base_number};
+ghost use Rattle.numbers.specs.Run.{end_of_run, digit_run, strict_run, is_digit_or_underscore, run_len};
 ghost use Rattle.numbers.specs.Steps.{digits_at};
 
-// A run of digits and underscores: the place after it, and whether an underscore is misplaced where
-// it stopped.
+use digits::Base;
+
+// An underscore is misplaced at the end of a run of digits.
 #[derive(Clone, Copy)]
-pub(crate) struct Digits {
+pub(crate) struct Misplaced {
     pub(crate) end: usize,
-    pub(crate) misplaced: bool,
 }
 
-// The run at a place: digits below the base, and single underscores.
-pub(crate) fn scan_digits(src: &[u8], at: usize, base: u8) -> Digits
-    requires { base ≤ 16 }
-    ensures { result ≡ digits_at at (digit_run base false (chars (drop at src.now))) }
+// Is a byte a digit of a base?
+fn is_digit(b: u8, base: Base) -> bool
+    ensures { result ≡ ltb (digit_val b) (base_number base) }
 {
-    let mut p = at;
+    digits::digit_val(b) < base as u8
+}
+
+// The place after a run, unless an underscore is misplaced there.
+fn ended(end: usize, misplaced: bool) -> Result<usize, Misplaced>
+    ensures { result ≡ digits_at end (end_of_run misplaced) }
+{
+    if misplaced {
+        Err(Misplaced { end })
+    } else {
+        Ok(end)
+    }
+}
+
+// The place after the run at a place: digits below the base, and single underscores.
+pub(crate) fn scan_digits(src: &[u8], at: usize, base: Base) -> Result<usize, Misplaced>
+    ensures { result ≡ digits_at at (digit_run (base_number base) false (chars (drop at src.now))) }
+{
     let mut under = false;
-    while p < src.len() {
+    for p in at..src.len() {
         let b = src[p];
-        if digits::digit_val(b) < base {
+        if is_digit(b, base) {
             under = false;
-            p += 1;
-        } else {
-            if b != b'_' {
-                return Digits {
-                    end: p,
-                    misplaced: under,
-                };
-            }
-            if under {
-                return Digits {
-                    end: p,
-                    misplaced: true,
-                };
-            }
+        } else if (b == b'_') & !under {
             under = true;
-            p += 1;
+        } else {
+            return ended(p, under);
         }
     }
-    Digits {
-        end: p,
-        misplaced: under,
-    }
+    ended(usize::max(at, src.len()), under)
 }
 
 // The same where no underscore may come first.
-pub(crate) fn scan_strict_digits(src: &[u8], at: usize, base: u8) -> Digits
-    requires { base ≤ 16 }
-    ensures { result ≡ digits_at at (strict_run base (chars (drop at src.now))) }
+#[tactic(auto, using(crate::proofs::Runs::strict_under, crate::proofs::Runs::strict_other))]
+pub(crate) fn scan_strict_digits(src: &[u8], at: usize, base: Base) -> Result<usize, Misplaced>
+    ensures { result ≡ digits_at at (strict_run (base_number base) (chars (drop at src.now))) }
 {
     if utf8::byte(src, at) == b'_' {
-        return Digits {
-            end: at,
-            misplaced: true,
-        };
+        return Err(Misplaced { end: at });
     }
     scan_digits(src, at, base)
 }
@@ -67,13 +67,12 @@ pub(crate) fn is_digit_or_underscore(b: u8) -> bool
     digits::is_decimal(b) | (b == b'_')
 }
 
-// The place after the longest run of digits and underscores, which may stand in any order.
-pub(crate) fn run_end(src: &[u8], at: usize) -> usize
-    ensures { result ≡ at + run_len (chars (drop at src.now)) }
+// How long the run of digits and underscores is that a text starts with; they may stand in any
+// order.
+pub(crate) fn run_len(text: &[u8]) -> usize
+    ensures { result ≡ run_len (chars text.now) }
 {
-    let mut p = at;
-    while is_digit_or_underscore(utf8::byte(src, p)) {
-        p += 1;
-    }
-    p
+    text.iter()
+        .position(|b| !is_digit_or_underscore(*b))
+        .unwrap_or(text.len())
 }

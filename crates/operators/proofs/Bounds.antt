@@ -17,8 +17,7 @@ use Rattle.utf8.specs.declared.Char.{Char}
 use Rattle.utf8.proofs.Ends.{Ends, ends_tail, ends_some}
 use Rattle.kinds.specs.Kinds.{ILLEGAL}
 use Rattle.kinds.specs.Table.{Row, operators, specials, table, row_of, is_operator}
-use Rattle.operators.specs.declared.Operator.{Operator}
-use Rattle.operators.specs.Longest.{begins, op, no_operator, longest, operator_of}
+use Rattle.operators.specs.Longest.{OperatorSaid, begins, op, no_operator, longest, operator_of}
 
 -- ---- no longer than the text
 begins_bound : (xs : List ℕ) (r : List Char) → begins xs r ≡ true → length xs ≤ length r
@@ -28,7 +27,7 @@ begins_bound (x ∷ xs) [] e = absurd (false≢true e)
 begins_bound (x ∷ xs) (c ∷ r) e = omega (arith, begins_bound xs r (and_split (eqb c.code x) (begins xs r) e).1)
 
 -- what holds of no operator, and of each row that the characters begin with, holds of the longest; f is a test that the rows pass
-pub longest_ind : (P : Operator → Type 0) (f : Row → Bool) (r : List Char) → P no_operator
+pub longest_ind : (P : OperatorSaid → Type 0) (f : Row → Bool) (r : List Char) → P no_operator
     → ((row : Row) → T (f row) → begins row.name r ≡ true → P (op row.kind (length row.name))) → (rows : List Row) → T (each f rows) → P (longest rows r)
 unfolding longest
 longest_ind P f r base one =
@@ -68,7 +67,7 @@ operator_local r t h = (
 abbrev some : Row → Bool
 some row = not (eqb row.kind ILLEGAL) && not (eqb (length row.name) 0)
 
-abbrev Agree : Operator → Type 0
+abbrev Agree : OperatorSaid → Type 0
 Agree x = eqb x.kind ILLEGAL ≡ eqb x.len 0
 
 both_false : (a b : Bool) → T (not a && not b) → a ≡ b
@@ -105,7 +104,7 @@ longest_least : (xs : List ℕ) (rows : List Row) (r : List Char) → begins xs 
 unfolding longest
 longest_least xs [] r b t = absurd (false≢true t)
 longest_least xs (row ∷ rows) r b t =
-    let P : Operator → Type 0 = λ x. length xs ≤ x.len in
+    let P : OperatorSaid → Type 0 = λ x. length xs ≤ x.len in
     let rest = longest rows r in
     ⊎_elim
     (λ (e : same xs row.name ≡ true).

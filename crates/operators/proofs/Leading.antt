@@ -15,11 +15,10 @@ use Rattle.utf8.specs.Chars.{chars}
 use Rattle.utf8.proofs.First.{chars_at, chars_end, chars_ascii}
 use Rattle.utf8.proofs.Places.{code_there}
 use Rattle.kinds.specs.Table.{Row, operators}
-use Rattle.operators.specs.declared.Operator.{Operator}
-use Rattle.operators.specs.Longest.{begins, op, no_operator, longer, longest, operator_of}
+use Rattle.operators.specs.Longest.{OperatorSaid, begins, op, no_operator, longer, longest, operator_of}
 
 -- the longest of the rows whose spelling passes a test
-unfoldable pub best : (List ℕ → Bool) → List Row → Operator
+unfoldable pub best : (List ℕ → Bool) → List Row → OperatorSaid
 best f [] = no_operator
 best f (row ∷ rows) = cond (f row.name) (longer (op row.kind (length row.name)) (best f rows)) (best f rows)
 

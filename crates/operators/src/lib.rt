@@ -3,25 +3,29 @@
 
 ghost use Rattle.std.specs.Prelude.{◌≡◌, drop};
 ghost use Rattle.utf8.specs.Chars.{chars};
-ghost use Rattle.operators.specs.Longest.{op, operator_of};
+ghost use Rattle.kinds.specs.Number.{kind_number};
+ghost use Rattle.operators.specs.Longest.{op, operator_said, operator_of};
 ghost use Rattle.operators.specs.Steps.{switch2, switch3, switch4, less_by, greater_by, and_by, period_by};
+
+use kinds::Kind;
 
 // An operator: its kind, and of how many characters it is.
 #[derive(Clone, Copy)]
 pub struct Operator {
-    pub kind: u8,
+    pub kind: Kind,
     pub len: usize,
 }
 
-fn op(kind: u8, len: usize) -> Operator
-    ensures { result ≡ op kind len }
+fn op(kind: Kind, len: usize) -> Operator
+    ensures { operator_said result ≡ op (kind_number kind) len }
 {
     Operator { kind, len }
 }
 
-// The second byte b of an operator: = or nothing.
-fn scan_switch2(b: u8, one: u8, assign: u8) -> Operator
-    ensures { result ≡ switch2 b one assign }
+// The second byte b of an operator: = or nothing. (The three functions of this kind test different
+// bytes; one function with options in place of them would be no plainer.)
+fn scan_switch2(b: u8, one: Kind, assign: Kind) -> Operator
+    ensures { operator_said result ≡ switch2 b (kind_number one) (kind_number assign) }
 {
     if b == b'=' {
         return op(assign, 2);
@@ -30,8 +34,8 @@ fn scan_switch2(b: u8, one: u8, assign: u8) -> Operator
 }
 
 // The same, where another byte ch may be there.
-fn scan_switch3(b: u8, one: u8, assign: u8, ch: u8, two: u8) -> Operator
-    ensures { result ≡ switch3 b one assign ch two }
+fn scan_switch3(b: u8, one: Kind, assign: Kind, ch: u8, two: Kind) -> Operator
+    ensures { operator_said result ≡ switch3 b (kind_number one) (kind_number assign) ch (kind_number two) }
 {
     if b == b'=' {
         return op(assign, 2);
@@ -44,8 +48,8 @@ fn scan_switch3(b: u8, one: u8, assign: u8, ch: u8, two: u8) -> Operator
 
 // Where the second byte is ch, a third byte c may follow: = or nothing. Else the operator is
 // another.
-fn scan_switch4(b: u8, c: u8, ch: u8, two: u8, assign: u8, other: Operator) -> Operator
-    ensures { result ≡ switch4 b c ch two assign other }
+fn scan_switch4(b: u8, c: u8, ch: u8, two: Kind, assign: Kind, other: Operator) -> Operator
+    ensures { operator_said result ≡ switch4 b c ch (kind_number two) (kind_number assign) (operator_said other) }
 {
     if b != ch {
         return other;
@@ -57,72 +61,72 @@ fn scan_switch4(b: u8, c: u8, ch: u8, two: u8, assign: u8, other: Operator) -> O
 }
 
 fn scan_less(b: u8, c: u8) -> Operator
-    ensures { result ≡ less_by b c }
+    ensures { operator_said result ≡ less_by b c }
 {
-    let other = scan_switch3(b, kinds::LSS, kinds::LEQ, b'-', kinds::ARROW);
-    scan_switch4(b, c, b'<', kinds::SHL, kinds::SHL_ASSIGN, other)
+    let other = scan_switch3(b, Kind::Lss, Kind::Leq, b'-', Kind::Arrow);
+    scan_switch4(b, c, b'<', Kind::Shl, Kind::ShlAssign, other)
 }
 
 fn scan_greater(b: u8, c: u8) -> Operator
-    ensures { result ≡ greater_by b c }
+    ensures { operator_said result ≡ greater_by b c }
 {
-    let other = scan_switch2(b, kinds::GTR, kinds::GEQ);
-    scan_switch4(b, c, b'>', kinds::SHR, kinds::SHR_ASSIGN, other)
+    let other = scan_switch2(b, Kind::Gtr, Kind::Geq);
+    scan_switch4(b, c, b'>', Kind::Shr, Kind::ShrAssign, other)
 }
 
 fn scan_and(b: u8, c: u8) -> Operator
-    ensures { result ≡ and_by b c }
+    ensures { operator_said result ≡ and_by b c }
 {
-    let other = scan_switch3(b, kinds::AND, kinds::AND_ASSIGN, b'&', kinds::LAND);
-    scan_switch4(b, c, b'^', kinds::AND_NOT, kinds::AND_NOT_ASSIGN, other)
+    let other = scan_switch3(b, Kind::And, Kind::AndAssign, b'&', Kind::Land);
+    scan_switch4(b, c, b'^', Kind::AndNot, Kind::AndNotAssign, other)
 }
 
 // After a point: two more of them or none.
 fn scan_period(b: u8, c: u8) -> Operator
-    ensures { result ≡ period_by b c }
+    ensures { operator_said result ≡ period_by b c }
 {
     if b != b'.' {
-        return op(kinds::PERIOD, 1);
+        return op(Kind::Period, 1);
     }
     if c != b'.' {
-        return op(kinds::PERIOD, 1);
+        return op(Kind::Period, 1);
     }
-    op(kinds::ELLIPSIS, 3)
+    op(Kind::Ellipsis, 3)
 }
 
 // The operator at a place; where there is none, ILLEGAL of no characters.
 pub fn scan_operator(src: &[u8], at: usize) -> Operator
-    ensures { result ≡ operator_of (chars (drop at src.now)) }
+    ensures { operator_said result ≡ operator_of (chars (drop at src.now)) }
 {
     if src.len() <= at {
-        return op(kinds::ILLEGAL, 0);
+        return op(Kind::Illegal, 0);
     }
     let a = src[at];
     let next = at + 1;
     let b = utf8::byte(src, next);
     match a {
-        b'+' => scan_switch3(b, kinds::ADD, kinds::ADD_ASSIGN, b'+', kinds::INC),
-        b'-' => scan_switch3(b, kinds::SUB, kinds::SUB_ASSIGN, b'-', kinds::DEC),
-        b'|' => scan_switch3(b, kinds::OR, kinds::OR_ASSIGN, b'|', kinds::LOR),
-        b'*' => scan_switch2(b, kinds::MUL, kinds::MUL_ASSIGN),
-        b'/' => scan_switch2(b, kinds::QUO, kinds::QUO_ASSIGN),
-        b'%' => scan_switch2(b, kinds::REM, kinds::REM_ASSIGN),
-        b'^' => scan_switch2(b, kinds::XOR, kinds::XOR_ASSIGN),
-        b'!' => scan_switch2(b, kinds::NOT, kinds::NEQ),
-        b'=' => scan_switch2(b, kinds::ASSIGN, kinds::EQL),
-        b':' => scan_switch2(b, kinds::COLON, kinds::DEFINE),
+        b'+' => scan_switch3(b, Kind::Add, Kind::AddAssign, b'+', Kind::Inc),
+        b'-' => scan_switch3(b, Kind::Sub, Kind::SubAssign, b'-', Kind::Dec),
+        b'|' => scan_switch3(b, Kind::Or, Kind::OrAssign, b'|', Kind::Lor),
+        b'*' => scan_switch2(b, Kind::Mul, Kind::MulAssign),
+        b'/' => scan_switch2(b, Kind::Quo, Kind::QuoAssign),
+        b'%' => scan_switch2(b, Kind::Rem, Kind::RemAssign),
+        b'^' => scan_switch2(b, Kind::Xor, Kind::XorAssign),
+        b'!' => scan_switch2(b, Kind::Not, Kind::Neq),
+        b'=' => scan_switch2(b, Kind::Assign, Kind::Eql),
+        b':' => scan_switch2(b, Kind::Colon, Kind::Define),
         b'<' => scan_less(b, utf8::byte(src, next + 1)),
         b'>' => scan_greater(b, utf8::byte(src, next + 1)),
         b'&' => scan_and(b, utf8::byte(src, next + 1)),
         b'.' => scan_period(b, utf8::byte(src, next + 1)),
-        b'(' => op(kinds::LPAREN, 1),
-        b'[' => op(kinds::LBRACK, 1),
-        b'{' => op(kinds::LBRACE, 1),
-        b',' => op(kinds::COMMA, 1),
-        b')' => op(kinds::RPAREN, 1),
-        b']' => op(kinds::RBRACK, 1),
-        b'}' => op(kinds::RBRACE, 1),
-        b';' => op(kinds::SEMICOLON, 1),
-        _ => op(kinds::ILLEGAL, 0),
+        b'(' => op(Kind::Lparen, 1),
+        b'[' => op(Kind::Lbrack, 1),
+        b'{' => op(Kind::Lbrace, 1),
+        b',' => op(Kind::Comma, 1),
+        b')' => op(Kind::Rparen, 1),
+        b']' => op(Kind::Rbrack, 1),
+        b'}' => op(Kind::Rbrace, 1),
+        b';' => op(Kind::Semicolon, 1),
+        _ => op(Kind::Illegal, 0),
     }
 }

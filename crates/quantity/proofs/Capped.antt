@@ -1,43 +1,49 @@
 -- Laws of numbers that 64 bits hold or do not, and of products with powers.
-use Prim.Native.Nat.{ℕ, suc, ◌+◌, ◌*◌, ◌-◌, ◌/◌, ◌%◌, ◌^◌, ◌≤◌, ◌<◌}
+use Prim.Native.Nat.{ℕ, suc, ◌+◌, ◌*◌, ◌-◌, ◌%◌, ◌^◌, ◌≤◌, ◌<◌}
 use mathlib.Core.Path.{◌≡◌, sym, ap, ◌∙◌}
 use mathlib.Core.Bool.{true, false}
 use mathlib.Core.Logic.{◌≢◌, ⊎_elim}
 use native.Mathlib.Omega.{arith}
 use native.Mathlib.Numerals.{add-one}
-use native.Mathlib.Nat.{mul-one, pow-zero, add-zero, add_comm, add-mul-mod_self_right, mod-eq_of_lt, mul_assoc, mul_right_comm, pow-suc, one-le-pow, le-mul_of_pos_right, div-lt_iff_lt-mul, le-div_iff_mul-le}
+use native.Mathlib.Nat.{mul-one, pow-zero, add-zero, add_comm, add-mul-mod_self_right, mod-eq_of_lt, mul_assoc, mul_right_comm, pow-suc, one-le-pow, le-mul_of_pos_right, mul_comm, pow-le-pow_left, pow-le-pow_right, le_trans}
 use lib.Dec.{ltb}
 use borrow.Author.Tests.{lt-ltb, le-ltb, ltb-true, ltb-false}
 use Rattle.basics.proofs.Choice.{either}
-use Rattle.quantity.specs.declared.whole.Whole.TheVariants.{Fits, Over}
-use Rattle.quantity.specs.declared.whole.Base.{Base}
-use Rattle.quantity.specs.declared.whole.Base.TheVariants.{Binary, Octal, Decimal, Hexadecimal}
-use Rattle.quantity.specs.Whole.{base_number, capped}
-use Rattle.quantity.specs.Figures.{most64}
+use Rattle.std.specs.Prelude.{Option, Some, None}
+use Rattle.std.specs.Option.{SomeIff}
+use Rattle.digits.specs.declared.Base.{Base}
+use Rattle.digits.specs.declared.Base.TheVariants.{Binary, Octal, Decimal, Hexadecimal}
+use Rattle.digits.specs.Base.{base_number}
+use Rattle.quantity.specs.Whole.{capped}
 
 -- ---- capped numbers
-pub fits : (n : ℕ) → n < 2 ^ 64 → capped n ≡ Fits n
+pub fits : (n : ℕ) → n < 2 ^ 64 → capped n ≡ Some n
 unfolding capped
 fits n h = rw (lt-ltb n (2 ^ 64) h)
 
-pub over : (n : ℕ) → 2 ^ 64 ≤ n → capped n ≡ Over
+pub over : (n : ℕ) → 2 ^ 64 ≤ n → capped n ≡ None
 unfolding capped
 over n h = rw (le-ltb n (2 ^ 64) h)
 
-pub fits_is : (a n : ℕ) → Fits a ≡ capped n → a ≡ n
+pub fits_is : (a n : ℕ) → Some a ≡ capped n → a ≡ n
 fits_is a n e =
     ⊎_elim (λ (t : ltb n (2 ^ 64) ≡ true). let f = fits n (ltb-true n (2 ^ 64) t) in cc)
     (λ (t : ltb n (2 ^ 64) ≡ false). let f = over n (ltb-false n (2 ^ 64) t) in let z : ◌≡◌ {A = ℕ} 0 1 = cc in absurd (omega arith)) (either (ltb n (2 ^ 64)))
 
-pub fits_low : (a n : ℕ) → Fits a ≡ capped n → n < 2 ^ 64
+pub fits_low : (a n : ℕ) → Some a ≡ capped n → n < 2 ^ 64
 fits_low a n e =
     ⊎_elim (λ (t : ltb n (2 ^ 64) ≡ true). ltb-true n (2 ^ 64) t)
     (λ (t : ltb n (2 ^ 64) ≡ false). let f = over n (ltb-false n (2 ^ 64) t) in let z : ◌≡◌ {A = ℕ} 0 1 = cc in absurd (omega arith)) (either (ltb n (2 ^ 64)))
 
-pub over_is : (n : ℕ) → Over ≡ capped n → 2 ^ 64 ≤ n
+pub over_is : (n : ℕ) → ◌≡◌ {A = Option ℕ} None (capped n) → 2 ^ 64 ≤ n
 over_is n e =
     ⊎_elim (λ (t : ltb n (2 ^ 64) ≡ true). let f = fits n (ltb-true n (2 ^ 64) t) in let z : ◌≡◌ {A = ℕ} 0 1 = cc in absurd (omega arith))
     (λ (t : ltb n (2 ^ 64) ≡ false). ltb-false n (2 ^ 64) t) (either (ltb n (2 ^ 64)))
+
+-- what the library's sums and products say
+pub capped_is : (n : ℕ) (r : Option ℕ) → SomeIff r (n < 2 ^ 64) n → r ≡ capped n
+capped_is n None none = sym (over n (omega (arith, none)))
+capped_is n (Some x) s = ap Some s.1 ∙ sym (fits n s.0)
 
 -- ---- the bases
 pub base_two : (b : Base) → 2 ≤ base_number b
@@ -51,15 +57,15 @@ module _ (base : ℕ) (two : 2 ≤ base) where
   pub pow_pos : (k : ℕ) → 0 < base ^ k
   pow_pos k = one-le-pow k base (omega arith)
 
-  -- `most` tells whether a product with the base fits
-  module _ (most : ℕ) (is : most ≡ most64 / base) (x : ℕ) where
-    pub times_fits : x ≤ most → x * base < 2 ^ 64
-    times_fits h = let e = (le-div_iff_mul-le {k = base} {x = x} {y = most64} (omega arith)).0 (rw is at h) in omega (arith, e)
+  -- a power is at least as large as that of 2
+  pub far : (x k : ℕ) → 0 < x → 64 ≤ k → 2 ^ 64 ≤ x * base ^ k
+  far x k some l =
+      le_trans (le_trans (pow-le-pow_left {n = 2} {m = base} two 64) (pow-le-pow_right {n = base} (omega arith) {i = 64} {j = k} l)) (rw (mul_comm x (base ^ k)) (le-mul_of_pos_right (base ^ k) some))
 
-    pub times_over : most < x → 2 ^ 64 ≤ x * base
-    times_over h = let e = (div-lt_iff_lt-mul {k = base} {x = most64} {y = x} (omega arith)).0 (rw is at h) in omega (arith, e)
+  pub far_power : (x k : ℕ) → 0 < x → 2 ^ 64 ≤ base ^ k → 2 ^ 64 ≤ x * base ^ k
+  far_power x k some l = le_trans l (rw (mul_comm x (base ^ k)) (le-mul_of_pos_right (base ^ k) some))
 
-  pub one_more : (x k : ℕ) → x * base ^ suc k ≡ x * base * base ^ k
+  one_more : (x k : ℕ) → x * base ^ suc k ≡ x * base * base ^ k
   one_more x k = ap (λ y. x * y) (pow-suc base k) ∙ sym (mul_assoc x (base ^ k) base) ∙ mul_right_comm x (base ^ k) base
 
   pub one_less : (x k : ℕ) → 0 < k → x * base ^ k ≡ x * base * base ^ (k - 1)

@@ -9,14 +9,14 @@ use lib.Dec.{lit<, lit≤}
 use Rattle.refusal.specs.Outcome.{refused}
 use Rattle.refusal.specs.Refusals.{NO_PAIR}
 use Rattle.quantity.specs.Pair.{Rational, pair, pair_of}
-use Rattle.quantity.specs.declared.whole.Whole.TheVariants.{Fits}
+use Rattle.std.specs.Prelude.{Some}
 use Rattle.quantity.specs.Whole.{capped}
 use Rattle.quantity.specs.Figures.{Denotes, Near}
 use Rattle.quantity.proofs.Capped.{fits_is}
 use Rattle.quantity.proofs.Search.{ten_pos, ten_parts, pair_found, pair_wide, pair_deep}
 
 -- the two powers, where 64 bits hold both
-pub known : (v : Rational) (m a b rise fall : ℕ) → Fits a ≡ capped rise → Fits b ≡ capped fall → Denotes v m rise fall → Denotes v m a b
+pub known : (v : Rational) (m a b rise fall : ℕ) → Some a ≡ capped rise → Some b ≡ capped fall → Denotes v m rise fall → Denotes v m a b
 known v m a b rise fall u w d = let r = fits_is a rise u in let f = fits_is b fall w in rw (r, f) d
 
 -- ---- a whole number

@@ -1,39 +1,28 @@
 -- Laws of the parts of a text, from a place on.
-use Prim.Native.Nat.{ℕ, suc, ◌+◌, ◌*◌, ◌-◌, ◌%◌, ◌^◌, ◌≤◌, ◌<◌}
+use Prim.Native.Nat.{ℕ, suc, ◌+◌, ◌*◌, ◌%◌, ◌^◌, ◌≤◌, ◌<◌}
 use mathlib.Core.Path.{◌≡◌, refl, ap, ◌∙◌}
 use mathlib.Core.Bool.{Bool, true, false, cond}
 use mathlib.Core.List.{List, [], ◌∷◌}
 use mathlib.Core.Logic.{◌≢◌}
 use native.Mathlib.Omega.{arith}
-use native.Mathlib.Nat.{add-zero}
 use lib.Dec.{ltb, eqb}
-use lib.ListN.{length, take, drop, get_or, drop_of_length-le, length-drop}
-use lib.Seq.{take_all}
-use borrow.Author.Tests.{lt-ltb, le-ltb, eq-eqb, ne_eqb, ltb-true, eqb-true, eqb-false}
+use lib.ListN.{length, drop, get_or, drop_of_length-le}
+use borrow.Author.Tests.{lt-ltb, le-ltb, ltb-true, eqb-true, eqb-false}
 use Rattle.basics.proofs.Lists.{drop_next}
+use Rattle.std.specs.List.{position_or_len, count_by}
+use Rattle.std.proofs.lemmas.List.Recursion.{is_position_or_len, is_count_by}
 use Rattle.digits.specs.Digit.{digit_val, is_decimal}
 use Rattle.quantity.specs.Text.{digits_from, digit_count, first_at}
 use Rattle.quantity.specs.Figures.{TooLong}
 use Rattle.quantity.proofs.Capped.{after_zero, after_some, bare_some, least}
 
--- ---- a part that ends where the whole ends
-pub rest_all : (n : ℕ) (s : List ℕ) → take (length s - n) (drop n s) ≡ drop n s
-rest_all n s = take_all (length s - n) (drop n s) (omega (arith, length-drop n s))
-
 -- ---- the place of a byte
-module _ (b : ℕ) (s : List ℕ) (p : ℕ) where
-  pub place_end : length s ≤ p → p + first_at b (drop p s) ≡ p
-  unfolding first_at
-  place_end h = rw (drop_of_length-le s h) (add-zero p)
+suc_is : (n : ℕ) → suc n ≡ 1 + n
+suc_is n = omega arith
 
-  module _ (h : p < length s) where
-    pub place_here : get_or s p 0 ≡ b → p + first_at b (drop p s) ≡ p
-    unfolding first_at
-    place_here e = rw (drop_next s p 0 h, eq-eqb _ _ e) (add-zero p)
-
-    pub place_on : get_or s p 0 ≢ b → p + first_at b (drop p s) ≡ p + 1 + first_at b (drop (p + 1) s)
-    unfolding first_at
-    place_on e = rw (drop_next s p 0 h, ne_eqb _ _ e) (omega arith)
+pub first_is : (b : ℕ) (s : List ℕ) → first_at b s ≡ position_or_len (λ x. eqb x b) s
+unfolding first_at
+first_is b = is_position_or_len (first_at b) (λ x. eqb x b) refl (λ x s. ap (cond (eqb x b) 0) (suc_is (first_at b s)))
 
 pub place_within : (b : ℕ) (s : List ℕ) → first_at b s ≤ length s
 unfolding first_at
@@ -45,19 +34,9 @@ place_within b (c ∷ s) = go (eqb c b) (place_within b s)
     go false h = omega (arith, h)
 
 -- ---- how many digits
-module _ (s : List ℕ) (p n : ℕ) where
-  pub count_end : length s ≤ p → n + digit_count (drop p s) ≡ n
-  unfolding digit_count
-  count_end h = rw (drop_of_length-le s h) (add-zero n)
-
-  module _ (h : p < length s) where
-    pub count_digit : is_decimal (get_or s p 0) ≡ true → n + digit_count (drop p s) ≡ n + 1 + digit_count (drop (p + 1) s)
-    unfolding digit_count
-    count_digit e = rw (drop_next s p 0 h, e) (omega arith)
-
-    pub count_other : is_decimal (get_or s p 0) ≡ false → n + digit_count (drop p s) ≡ n + digit_count (drop (p + 1) s)
-    unfolding digit_count
-    count_other e = rw (drop_next s p 0 h, e)
+pub count_is : (s : List ℕ) → digit_count s ≡ count_by is_decimal s
+unfolding digit_count
+count_is = is_count_by digit_count is_decimal refl (λ x s. ap (λ n. cond (is_decimal x) n (digit_count s)) (suc_is (digit_count s)))
 
 pub count_within : (s : List ℕ) → digit_count s ≤ length s
 unfolding digit_count

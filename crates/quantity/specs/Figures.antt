@@ -1,12 +1,15 @@
 -- Steps of the code. No public contract cites this file.
-use Rattle.std.specs.Prelude.{ℕ, ◌*◌, ◌^◌, ◌%◌, ◌≤◌, ◌<◌, ◌≡◌, ◌⊎◌, ◌≢◌}
+use Rattle.std.specs.Prelude.{ℕ, ◌*◌, ◌^◌, ◌%◌, ◌≤◌, ◌<◌, ◌≡◌, ◌⊎◌, ◌≢◌, Option, Some, None}
+use Rattle.refusal.specs.Outcome.{Outcome, refused, gave}
+use Rattle.refusal.specs.Refusals.{NO_PAIR}
 use Rattle.quantity.specs.declared.figures.Figures.{Figures}
-use Rattle.quantity.specs.declared.figures.Figures.TheVariants.{Short, Long}
+use Rattle.quantity.specs.declared.Quantity.{Quantity}
 use Rattle.quantity.specs.Pair.{Rational}
 
--- the largest number of 64 bits
-abbrev pub most64 : ℕ
-most64 = 18446744073709551615
+-- what is found: a pair, or that there is none
+abbrev pub found : Option Quantity → Outcome Quantity
+found (Some q) = gave q
+found None = refused NO_PAIR
 
 -- m does not end in a zero, unless it is 0
 abbrev pub Bare : ℕ → ℕ → Type 0
@@ -20,10 +23,10 @@ pub record TooLong (base n : ℕ) : Type 0 where
   pub bare : m % base ≢ 0
   pub long : 2 ^ 64 ≤ m
 
--- n without the zeros that end it: m, and how many zeros, at most as many as bytes were read
-abbrev pub Stripped : ℕ → ℕ → ℕ → Figures → Type 0
-Stripped base n most (Short m z) = (n ≡ m * base ^ z) × Bare base m × (z ≤ most)
-Stripped base n most Long = TooLong base n
+-- n without the zeros that end it: m, and how many zeros, at most as many as bytes were read; or m is too large
+abbrev pub Stripped : ℕ → ℕ → ℕ → Option Figures → Type 0
+Stripped base n most (Some f) = (n ≡ f.m * base ^ f.zeros) × Bare base f.m × (f.zeros ≤ most)
+Stripped base n most None = TooLong base n
 
 -- the number is m * 10^rise / 10^fall
 pub record Denotes (v : Rational) (m rise fall : ℕ) : Type 0 where

@@ -4,8 +4,6 @@ use Rattle.std.specs.Prelude.{ℕ, zero, suc, ◌*◌, ◌/◌, ◌%◌, ◌^◌
 use Rattle.refusal.specs.Outcome.{Outcome, refused, gave}
 use Rattle.refusal.specs.Refusals.{NO_PAIR}
 use Rattle.quantity.specs.declared.Quantity.{Quantity}
-use Rattle.quantity.specs.declared.Answer.{Answer}
-use Rattle.quantity.specs.declared.Answer.TheVariants.{Gave, Refused}
 
 -- the rational number over / under
 pub record Rational : Type 0 where
@@ -27,8 +25,3 @@ first_pair v (suc n) k = cond (fits_at v k) (pair (v.over * 10 ^ k / v.under) k)
 -- of the 19 numbers from 0 to 18
 abbrev pub pair_of : Rational → Outcome Quantity
 pair_of v = first_pair v 19 0
-
--- what an answer comes to
-abbrev pub answer_outcome : Answer → Outcome Quantity
-answer_outcome (Gave q) = gave q
-answer_outcome (Refused n) = refused n

@@ -1,59 +1,49 @@
 // The digits of a number without the zeros that end it.
-ghost use Rattle.std.specs.Prelude.{◌≡◌, ◌*◌, ◌/◌, ◌^◌, ◌+◌, ◌≤◌, length};
+ghost use Rattle.std.specs.Prelude.{◌≡◌, ◌*◌, ◌^◌, ◌+◌, length};
 ghost use Rattle.digits.specs.Digit.{digit_val};
+ghost use Rattle.digits.specs.Base.{base_number};
 ghost use Rattle.quantity.specs.Text.{digits_of};
 ghost use Rattle.quantity.specs.Whole.{capped};
-ghost use Rattle.quantity.specs.Figures.{most64, Stripped};
+ghost use Rattle.quantity.specs.Figures.{Stripped};
 
-use crate::whole::{Whole, added, scaled};
+use crate::whole::{added, number, scaled};
+use digits::Base;
 
-// The digits of a number without the zeros that end it, and how many zeros those are; or that 64
-// bits do not hold these digits.
+// The digits of a number without the zeros that end it, and how many zeros those are.
 #[derive(Clone, Copy)]
-pub(crate) enum Figures {
-    Short { m: u64, zeros: u64 },
-    Long,
+pub(crate) struct Figures {
+    pub(crate) m: u64,
+    pub(crate) zeros: u64,
 }
 
 fn digit(b: u8) -> u64
     ensures { result ≡ digit_val b }
 {
-    digits::digit_val(b) as u64
+    u64::from(digits::digit_val(b))
 }
 
 // m * base^n + d
-fn appended(m: u64, base: u64, most: u64, n: u64, d: u64) -> Whole
-    requires { (2 ≤ base) × (most ≡ most64 / base) }
-    ensures { result ≡ capped (d + m * base ^ n) }
+fn appended(m: u64, base: Base, n: u64, d: u64) -> Option<u64>
+    ensures { result ≡ capped (d + m * base_number base ^ n) }
 {
-    added(d, scaled(m, base, most, n))
+    added(d, scaled(m, base, n))
 }
 
-// The digits of a base in a text.
-pub(crate) fn read_figures(text: &[u8], base: u64, most: u64) -> Figures
-    requires { (2 ≤ base) × (most ≡ most64 / base) }
-    ensures { Stripped base (digits_of base text.now) (length text.now) result }
+// The digits of a base in a text, if 64 bits hold them without the zeros that end them.
+pub(crate) fn read_figures(text: &[u8], base: Base) -> Option<Figures>
+    ensures { Stripped (base_number base) (digits_of (base_number base) text.now) (length text.now) result }
 {
-    let mut m: u64 = 0;
-    let mut zeros: u64 = 0;
-    let mut p = 0;
-    while p < text.len() {
-        let d = digit(text[p]);
-        if base <= d {
-            p += 1;
-        } else {
-            if d == 0 {
-                zeros += 1;
-                p += 1;
-            } else {
-                let Whole::Fits(x) = appended(m, base, most, zeros + 1, d) else {
-                    return Figures::Long;
-                };
-                m = x;
-                zeros = 0;
-                p += 1;
-            }
+    let below = number(base);
+    let mut m = 0;
+    let mut zeros = 0;
+    for b in text {
+        let d = digit(*b);
+        if d == 0 {
+            zeros += 1;
+        } else if d < below {
+            m = appended(m, base, zeros + 1, d)?;
+            zeros = 0;
         }
     }
-    Figures::Short { m, zeros }
+    Some(Figures { m, zeros })
 }

@@ -6,29 +6,12 @@ ghost use Rattle.quantity.specs.Text.{first_at, digit_count};
 pub(crate) fn find(text: &[u8], c: u8) -> usize
     ensures { result ≡ first_at c text.now }
 {
-    let mut p = 0;
-    while p < text.len() {
-        if text[p] == c {
-            return p;
-        }
-        p += 1;
-    }
-    p
+    text.iter().position(|b| *b == c).unwrap_or(text.len())
 }
 
 // How many decimal digits a text has.
 pub(crate) fn count_digits(text: &[u8]) -> u64
     ensures { result ≡ digit_count text.now }
 {
-    let mut n: u64 = 0;
-    let mut p = 0;
-    while p < text.len() {
-        if digits::is_decimal(text[p]) {
-            n += 1;
-            p += 1;
-        } else {
-            p += 1;
-        }
-    }
-    n
+    text.iter().filter(|b| digits::is_decimal(**b)).count() as u64
 }

@@ -17,18 +17,18 @@ use Rattle.utf8.proofs.First.{ascii, char_at_in, char_at_ascii, chars_end, chars
 use Rattle.utf8.proofs.Append.{first_stray}
 use Rattle.utf8.proofs.Encoding.{first_coded}
 use Rattle.errors.specs.Numbers.{OPEN_QUOTE}
-use Rattle.quotes.specs.declared.Quoted.{Quoted}
+use Rattle.quotes.specs.declared.content.Content.{Content}
 use Rattle.escapes.specs.Answers.{character, no_character, Escape, bytes_of}
 use Rattle.escapes.specs.Escape.{escape_of}
-use Rattle.quotes.specs.Body.{Body, ends, plain, escape, body_from, body, body_at, quoted_at}
-use Rattle.quotes.specs.Steps.{empty_body, added, escape_piece, char_piece, plain_piece, body_end}
+use Rattle.quotes.specs.Body.{Body, ReadBody, ends, plain, escape, body_from, body, body_at, quoted_at}
+use Rattle.quotes.specs.Steps.{nothing_read, added, escape_piece, char_piece, plain_piece, body_end}
 use Rattle.quotes.proofs.Reading.{at_quote, at_lf, at_slash, at_plain}
 use Rattle.quotes.proofs.Bounds.{Fresh}
 use Rattle.escapes.proofs.Heads.{escape_bound, escape_widths, escape_rest}
 use Rattle.quotes.proofs.Bodies.{widths_split, strays_fit}
 
 -- what was read, and the rest
-unfoldable pub joined : Quoted → Quoted → Quoted
+unfoldable pub joined : Content → ReadBody → ReadBody
 joined q x =
     record {
       end = x.end;
@@ -43,19 +43,18 @@ joined q x =
     }
 
 -- at the start nothing was read
-pub joined_start : (at : ℕ) (x : Quoted)
-    → x ≡ joined (empty_body at) x
+pub joined_start : (x : ReadBody) → x ≡ joined nothing_read x
 unfolding joined
-joined_start at x = rw (zero-add x.chars, zero-add x.count, zero-add x.strays, zero-add x.bytes)
+joined_start x = rw (zero-add x.chars, zero-add x.count, zero-add x.strays, zero-add x.bytes)
 
 -- ---- the end
-pub joined_ends : (q : Quoted) (p n end : ℕ) (closed : Bool) (error : ℕ) (r : List Char) → Fresh q → p + widths (take n r) ≡ end
+pub joined_ends : (q : Content) (p n end : ℕ) (closed : Bool) (error : ℕ) (r : List Char) → Fresh q → p + widths (take n r) ≡ end
     → body_end q end n closed error ≡ joined q (body_at p r (ends n closed error))
 unfolding body_end joined body_at
 joined_ends q p n end closed error r f e = rw (e, f, or-false q.escaped, add-zero q.count, add-zero q.strays, add-zero q.bytes)
 
 -- ---- one character more
-module _ (q : Quoted) (p : ℕ) (c : Char) (r : List Char) (b : Body) (fit : 2 * b.strays ≤ length b.value) where
+module _ (q : Content) (p : ℕ) (c : Char) (r : List Char) (b : Body) (fit : 2 * b.strays ≤ length b.value) where
   pub joined_plain : length (encode c.code) ≡ c.width + 2 * cond (is_stray c) 1 0
       → joined q (body_at p (c ∷ r) (plain c b)) ≡ joined (added q (char_piece c)) (body_at (p + c.width) r b)
   unfolding added joined body_at
@@ -71,7 +70,7 @@ module _ (q : Quoted) (p : ℕ) (c : Char) (r : List Char) (b : Body) (fit : 2 *
       omega (arith, length-append (encode c.code) b.value) in
       λ i. record { end = e1 i; chars = e2 i; closed = b.closed; error = b.error; count = e3 i; code = e4 i; escaped = q.escaped || b.escaped; strays = e5 i; bytes = e6 i }
 
-module _ (q : Quoted) (p : ℕ) (c : Char) (r : List Char) (n : ℕ) (b : Body) (fit : 2 * b.strays ≤ length b.value) where
+module _ (q : Content) (p : ℕ) (c : Char) (r : List Char) (n : ℕ) (b : Body) (fit : 2 * b.strays ≤ length b.value) where
   pub joined_escape : c.width ≡ 1 → widths (take n r) ≡ n → (code : ℕ) (byte : Bool)
       → joined q (body_at p (c ∷ r) (escape (suc n) (character code byte) b)) ≡ joined (added q (escape_piece (n + 1) code byte)) (body_at (p + (n + 1)) (drop n r) b)
   unfolding added joined body_at
@@ -107,7 +106,7 @@ escape_fits quote s p x h e =
     rw e (omega (arith, escape_bound quote (chars r), chars_le r, length-drop (p + 1) s))
 
 -- ---- one step at the place p
-module _ (quote : ℕ) (low : quote < 0x80) (s : List ℕ) (p : ℕ) (q : Quoted) where
+module _ (quote : ℕ) (low : quote < 0x80) (s : List ℕ) (p : ℕ) (q : Content) where
   pub step_end : Fresh q → length s ≤ p → body_end q p 0 false OPEN_QUOTE ≡ joined q (quoted_at quote s p)
   unfolding body_from
   step_end f h = rw (chars_end s p h) (joined_ends q p 0 p false OPEN_QUOTE [] f (add-zero p))

@@ -1,5 +1,5 @@
 -- Runs of ASCII characters that are written as themselves: where they end, and all of them read as one step.
-use Prim.Native.Nat.{ℕ, zero, suc, ◌+◌, ◌-◌, ◌≤◌, ◌<◌, suc-le-suc}
+use Prim.Native.Nat.{ℕ, zero, suc, ◌+◌, ◌-◌, ◌≤◌, ◌<◌, min, max, suc-le-suc}
 use mathlib.Core.Path.{◌≡◌, refl, sym, ap, ◌∙◌}
 use mathlib.Core.Bool.{Bool, true, false, cond, false≢true}
 use mathlib.Core.List.{List, [], ◌∷◌}
@@ -8,14 +8,16 @@ use native.Mathlib.Decide.{dec_lt}
 use native.Mathlib.Nat.{add-zero}
 use native.Mathlib.Omega.{arith}
 use lib.Dec.{eqb, ltb}
-use lib.ListN.{length, get_or, drop, drop_of_length-le, length-drop}
+use lib.Seq.{take-length}
+use lib.ListN.{length, get_or, take, drop, drop_of_length-le, length-drop}
 use borrow.Author.Tests.{ne_eqb, eqb-false, ltb-true}
+use Rattle.std.specs.List.{prefix_len}
 use Rattle.basics.proofs.Choice.{either, cond_ind}
 use Rattle.basics.proofs.Lists.{drop_next}
-use Rattle.quotes.specs.declared.Quoted.{Quoted}
-use Rattle.quotes.specs.Body.{quoted_at}
+use Rattle.quotes.specs.declared.content.Content.{Content}
+use Rattle.quotes.specs.Body.{ReadBody, quoted_at}
 use Rattle.quotes.specs.Plain.{is_plain_byte, plain_len}
-use Rattle.quotes.specs.Steps.{empty_body, added, plain_piece, body_end}
+use Rattle.quotes.specs.Steps.{nothing_read, added, plain_piece, body_end}
 use Rattle.quotes.proofs.Places.{joined, joined_start, step_quote, step_ascii}
 
 -- ---- such a byte
@@ -42,10 +44,33 @@ module _ (quote : ℕ) where
   plain_bound [] = omega arith
   plain_bound (b ∷ t) = cond_ind (λ n. n ≤ suc (length t)) (is_plain_byte quote b) _ _ (λ _. suc-le-suc (plain_bound t)) (λ _. omega arith)
 
+  plain_none : (t : List ℕ) → length t ≡ 0 → plain_len quote t ≡ 0
+  plain_none t h = omega (arith, plain_bound t)
+
+  -- in std's word
+  plain_counted : (t : List ℕ) → prefix_len (is_plain_byte quote) t ≡ plain_len quote t
+  unfolding plain_len
+  plain_counted [] = refl
+  plain_counted (b ∷ t) = cond_ind (λ (n : ℕ). cond (is_plain_byte quote b) (1 + prefix_len (is_plain_byte quote) t) 0 ≡ n) (is_plain_byte quote b) _ _ (λ e. rw (e, plain_counted t) (omega arith)) (λ e. rw e)
+
   module _ (s : List ℕ) (p : ℕ) where
     pub plain_over : length s ≤ p → plain_len quote (drop p s) ≡ 0
     unfolding plain_len
     plain_over h = rw (drop_of_length-le s h)
+
+    -- of what is left of the text after a place
+    pub plain_left : (m : ℕ) → m ≡ min p (length s) → prefix_len (is_plain_byte quote) (take (length s - m) (drop m s)) ≡ plain_len quote (drop p s)
+    plain_left m is =
+        let whole : length s - m ≡ length (drop m s) = omega (arith, length-drop m s) in
+        rw (whole, take-length (drop m s))
+        (plain_counted (drop m s)
+        ∙ elim (dec_lt p (length s)) [
+          | yes h ↦ let e : m ≡ p = omega arith in rw e
+          | no h ↦ plain_none (drop m s) (omega (arith, length-drop m s)) ∙ sym (plain_over (omega arith))
+        ])
+
+    pub plain_reach : p + plain_len quote (drop p s) ≤ max p (length s)
+    plain_reach = omega (arith, plain_bound (drop p s), length-drop p s)
 
     module _ (h : p < length s) where
       pub plain_next : is_plain_byte quote (get_or s p 0) ≡ true → plain_len quote (drop p s) ≡ suc (plain_len quote (drop (p + 1) s))
@@ -68,7 +93,7 @@ module _ (quote : ℕ) where
       run_fits h = omega (arith, is, plain_bound (drop (p + 1) s), length-drop (p + 1) s)
 
 -- ---- n characters and one more are a step of n + 1
-one_more : (q : Quoted) (m code b : ℕ) → added (added q (plain_piece (suc m) code)) (plain_piece 1 b) ≡ added q (plain_piece (suc (suc m)) code)
+one_more : (q : Content) (m code b : ℕ) → added (added q (plain_piece (suc m) code)) (plain_piece 1 b) ≡ added q (plain_piece (suc (suc m)) code)
 unfolding added
 one_more q m code b =
     let e1 : q.chars + suc m + 1 ≡ q.chars + suc (suc m) = omega arith in
@@ -76,10 +101,10 @@ one_more q m code b =
     let e3 : cond (eqb (q.count + suc m) 0) b (cond (eqb q.count 0) code q.code) ≡ cond (eqb q.count 0) code q.code = rw (ne_eqb (q.count + suc m) 0 (λ z. omega arith)) in
     let e4 : q.strays + 0 + 0 ≡ q.strays + 0 = omega arith in
     let e5 : q.bytes + suc m + 1 ≡ q.bytes + suc (suc m) = omega arith in
-    λ i. record { end = q.end; chars = e1 i; closed = q.closed; error = q.error; count = e2 i; code = e3 i; escaped = q.escaped; strays = e4 i; bytes = e5 i }
+    λ i. record { chars = e1 i; count = e2 i; code = e3 i; escaped = q.escaped; strays = e4 i; bytes = e5 i }
 
-module _ (quote : ℕ) (low : quote < 0x80) (s : List ℕ) (q : Quoted) where
-  step_one : (p : ℕ) (x : Quoted) → p < length s → Plain quote (get_or s p 0) → joined x (quoted_at quote s p) ≡ joined (added x (plain_piece 1 (get_or s p 0))) (quoted_at quote s (p + 1))
+module _ (quote : ℕ) (low : quote < 0x80) (s : List ℕ) (q : Content) where
+  step_one : (p : ℕ) (x : Content) → p < length s → Plain quote (get_or s p 0) → joined x (quoted_at quote s p) ≡ joined (added x (plain_piece 1 (get_or s p 0))) (quoted_at quote s (p + 1))
   step_one p x h f = step_ascii quote low s p x h f.no_quote f.no_lf f.no_slash f.low
 
   -- after a character, n more
@@ -115,14 +140,14 @@ module _ (quote : ℕ) (low : quote < 0x80) (s : List ℕ) (q : Quoted) where
       rw (place, total) (step_ascii quote low s p q h no_quote no_lf no_slash l ∙ more (get_or s p 0) m (p + 1) 0 refl)
 
 -- ---- a body of n such characters that is closed after them
-abbrev pub closed_at : ℕ → ℕ → ℕ → Quoted
+abbrev pub closed_at : ℕ → ℕ → ℕ → ReadBody
 closed_at p n code =
     record { end = p + n + 1; chars = n + 1; closed = true; error = 0; count = n; code = code; escaped = false; strays = 0; bytes = n }
 
 module _ (quote : ℕ) (low : quote < 0x80) (s : List ℕ) (p : ℕ) where
   none_closed : p < length s → get_or s p 0 ≡ quote → closed_at p 0 0 ≡ quoted_at quote s p
   unfolding body_end
-  none_closed h f = rw (add-zero p) (step_quote quote low s p (empty_body p) h refl f ∙ sym (joined_start p (quoted_at quote s p)))
+  none_closed h f = rw (add-zero p) (step_quote quote low s p nothing_read h refl f ∙ sym (joined_start (quoted_at quote s p)))
 
   some_closed : (n : ℕ) → suc n ≡ plain_len quote (drop p s) → p + suc n < length s → get_or s (p + suc n) 0 ≡ quote → is_plain_byte quote (get_or s p 0) ≡ true
       → closed_at p (suc n) (get_or s p 0) ≡ quoted_at quote s p
@@ -131,12 +156,12 @@ module _ (quote : ℕ) (low : quote < 0x80) (s : List ℕ) (p : ℕ) where
       let b = get_or s p 0 in
       let there : p < length s = omega arith in
       let y = plain_is quote b t in
-      let run = step_run quote low s (empty_body p) p (suc n) (e ∙ plain_next quote s p there t) there y.no_quote y.no_lf y.no_slash y.low in
+      let run = step_run quote low s nothing_read p (suc n) (e ∙ plain_next quote s p there t) there y.no_quote y.no_lf y.no_slash y.low in
       let z : suc n ≡ 0 + suc n = omega arith in
       let fresh : cond (eqb (0 + suc n) 0) 0 b ≡ b = rw (ne_eqb (0 + suc n) 0 (λ e. omega arith)) in
       (λ i. record { end = p + suc n + 1; chars = z i + 1; closed = true; error = 0; count = z i; code = b; escaped = false; strays = 0; bytes = z i })
-      ∙ step_quote quote low s (p + suc n) (added (empty_body p) (plain_piece (suc n) b)) h fresh f
-      ∙ sym run ∙ sym (joined_start p (quoted_at quote s p))
+      ∙ step_quote quote low s (p + suc n) (added nothing_read (plain_piece (suc n) b)) h fresh f
+      ∙ sym run ∙ sym (joined_start (quoted_at quote s p))
 
   pub run_closed : (n : ℕ) → n ≡ plain_len quote (drop p s) → p + n < length s → get_or s (p + n) 0 ≡ quote
       → closed_at p n (cond (eqb n 0) 0 (get_or s p 0)) ≡ quoted_at quote s p

@@ -1,9 +1,10 @@
 -- The body of a quoted literal, from after its opening quote.
-use Rattle.std.specs.Prelude.{ℕ, zero, suc, ◌+◌, ◌*◌, ◌-◌, Bool, true, false, cond, List, [], ◌∷◌, ◌++◌, eqb, length, take, drop}
+use Rattle.std.specs.Prelude.{ℕ, zero, suc, ◌+◌, ◌*◌, ◌-◌, Bool, true, false, cond, List, [], ◌∷◌, ◌++◌, eqb, length, take, drop, is_none}
 use Prim.Native.Char.{code}
 use Rattle.utf8.specs.declared.Char.{Char}
 use Rattle.utf8.specs.Chars.{chars, widths, is_stray, encode}
 use Rattle.errors.specs.Numbers.{OPEN_QUOTE}
+use Rattle.errors.specs.Faults.{error_number}
 use Rattle.quotes.specs.declared.Quoted.{Quoted}
 use Rattle.escapes.specs.Answers.{Meaning, character, no_character, bytes_of}
 use Rattle.escapes.specs.Escape.{escape_of}
@@ -72,9 +73,36 @@ body_from quote (suc k) (c ∷ r) = body_from quote k r
 abbrev pub body : ℕ → List Char → Body
 body quote r = body_from quote 0 r
 
--- a body of the characters r at a place, as the code gives it; of a stray byte's U+FFFD it counts
--- one byte
-unfoldable pub body_at : ℕ → List Char → Body → Quoted
+-- a body at a place of a text, as it is read: where it ends, and of its value the number of bytes, where
+-- each stray byte counts as one
+pub record ReadBody : Type 0 where
+  pub end : ℕ
+  pub chars : ℕ
+  pub closed : Bool
+  pub error : ℕ
+  pub count : ℕ
+  pub code : ℕ
+  pub escaped : Bool
+  pub strays : ℕ
+  pub bytes : ℕ
+
+-- what the code gives of it
+abbrev pub quoted_said : Quoted → ReadBody
+quoted_said q =
+    record {
+      end = q.end;
+      chars = q.content.chars;
+      closed = is_none q.error;
+      error = error_number q.error;
+      count = q.content.count;
+      code = q.content.code;
+      escaped = q.content.escaped;
+      strays = q.content.strays;
+      bytes = q.content.bytes;
+    }
+
+-- a body of the characters r at a place; of a stray byte's U+FFFD one byte is counted
+unfoldable pub body_at : ℕ → List Char → Body → ReadBody
 body_at at r b =
     record {
       end = at + widths (take b.len r);
@@ -89,5 +117,5 @@ body_at at r b =
     }
 
 -- the body at a place of a text
-abbrev pub quoted_at : ℕ → List ℕ → ℕ → Quoted
+abbrev pub quoted_at : ℕ → List ℕ → ℕ → ReadBody
 quoted_at quote s at = body_at at (chars (drop at s)) (body quote (chars (drop at s)))

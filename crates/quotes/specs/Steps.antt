@@ -3,23 +3,28 @@
 use Rattle.std.specs.Prelude.{ℕ, ◌+◌, Bool, true, false, cond, ◌||◌, eqb, length}
 use Rattle.utf8.specs.declared.Char.{Char}
 use Rattle.utf8.specs.Chars.{is_stray}
-use Rattle.quotes.specs.declared.Quoted.{Quoted}
-use Rattle.quotes.specs.declared.body.Piece.{Piece}
-use Rattle.escapes.specs.Answers.{Meaning, character, no_character, bytes_of}
+use Rattle.escapes.specs.Answers.{character, bytes_of}
+use Rattle.quotes.specs.declared.content.Content.{Content}
+use Rattle.quotes.specs.declared.plain.Quote.{Quote}
+use Rattle.quotes.specs.declared.plain.Quote.TheVariants.{Single, Double}
+use Rattle.quotes.specs.Body.{ReadBody}
+use Rattle.quotes.specs.Literal.{double_quote, single_quote}
 use Rattle.quotes.specs.Plain.{is_plain_byte}
 
+-- the code of a quote
+abbrev pub quote_code : Quote → ℕ
+quote_code Single = single_quote
+quote_code Double = double_quote
+
 -- before the first character
-abbrev pub empty_body : ℕ → Quoted
-empty_body at = record { end = at; chars = 0; closed = false; error = 0; count = 0; code = 0; escaped = false; strays = 0; bytes = 0 }
+abbrev pub nothing_read : Content
+nothing_read = record { chars = 0; count = 0; code = 0; escaped = false; strays = 0; bytes = 0 }
 
 -- one piece more
-unfoldable pub added : Quoted → Piece → Quoted
+unfoldable pub added : Content → Content → Content
 added q x =
     record {
-      end = q.end;
       chars = q.chars + x.chars;
-      closed = q.closed;
-      error = q.error;
       count = q.count + x.count;
       code = cond (eqb q.count 0) x.code q.code;
       escaped = x.escaped || q.escaped;
@@ -28,19 +33,19 @@ added q x =
     }
 
 -- an escape of n characters
-abbrev pub escape_piece : ℕ → ℕ → Bool → Piece
+abbrev pub escape_piece : ℕ → ℕ → Bool → Content
 escape_piece n code byte = record { chars = n; count = 1; code = code; escaped = true; strays = 0; bytes = length (bytes_of (character code byte)) }
 
 -- a character that is written as itself
-abbrev pub char_piece : Char → Piece
+abbrev pub char_piece : Char → Content
 char_piece c = record { chars = 1; count = 1; code = c.code; escaped = false; strays = cond (is_stray c) 1 0; bytes = c.width }
 
 -- a run of n such characters of one byte, by the code of the first
-abbrev pub plain_piece : ℕ → ℕ → Piece
+abbrev pub plain_piece : ℕ → ℕ → Content
 plain_piece n code = record { chars = n; count = n; code = code; escaped = false; strays = 0; bytes = n }
 
 -- the end of the body, after n characters more
-unfoldable pub body_end : Quoted → ℕ → ℕ → Bool → ℕ → Quoted
+unfoldable pub body_end : Content → ℕ → ℕ → Bool → ℕ → ReadBody
 body_end q end n closed error =
     record {
       end = end;
@@ -53,11 +58,6 @@ body_end q end n closed error =
       strays = q.strays;
       bytes = q.bytes;
     }
-
--- the error of an escape; 0 where it gives a character
-abbrev pub error_of : Meaning → ℕ
-error_of (character code byte) = 0
-error_of (no_character error) = error
 
 -- the mark of a byte that is no plain character, for the search by eight bytes
 unfoldable pub stop_mark : ℕ → ℕ → ℕ

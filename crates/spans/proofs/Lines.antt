@@ -1,14 +1,20 @@
 -- Laws of a comment's line: one step at a place of a text, by the byte there; and what the place of the closing says.
-use Prim.Native.Nat.{ℕ, ◌+◌, ◌≤◌, ◌<◌}
+use Prim.Native.Nat.{ℕ, zero, suc, ◌+◌, ◌-◌, ◌≤◌, ◌<◌, min}
 use Prim.Native.Char.{code}
-use mathlib.Core.Path.{◌≡◌, refl, ap, ◌∙◌}
-use mathlib.Core.Bool.{Bool, true, false, cond, ◌&&◌}
+use mathlib.Core.Path.{◌≡◌, refl, sym, ap, ◌∙◌}
+use mathlib.Core.Bool.{Bool, true, false, cond, not, ◌&&◌}
 use mathlib.Core.List.{List, [], ◌∷◌}
+use mathlib.Core.Logic.{⊎_elim}
 use native.Mathlib.Omega.{arith}
 use native.Mathlib.Decide.{dec_lt}
 use lib.Dec.{eqb, lit<}
-use lib.ListN.{length, get_or, drop}
-use borrow.Author.Tests.{eq-eqb, ne_eqb}
+use lib.ListN.{length, get_or, take, drop, drop_of_length-le, length-drop}
+use lib.Seq.{take-length}
+use borrow.Author.Tests.{eq-eqb, eqb-true, eqb-false, ne_eqb}
+use Rattle.std.specs.List.{list_all, take_while}
+use Rattle.std.proofs.lemmas.List.Sums.{take_while-cons}
+use Rattle.basics.proofs.Choice.{either}
+use Rattle.basics.proofs.Lists.{drop_next}
 use Rattle.utf8.specs.declared.Char.{Char}
 use Rattle.utf8.specs.Chars.{first_char, char_at, chars}
 use Rattle.utf8.proofs.First.{chars_at, chars_end, chars_ascii, there_chars}
@@ -39,6 +45,41 @@ module _ (s : List ℕ) (p : ℕ) where
       pub blank_next : is_space (get_or s p 0) ≡ true → blank_to_end (chars (drop p s)) ≡ blank_to_end (chars (drop (p + 1) s))
       unfolding blank_to_end
       blank_next e = rw (chars_ascii s p h (ascii_only is_space space_high _ e), ne_eqb _ _ n, e)
+
+-- ---- the same in std's words
+abbrev pub not_lf : ℕ → Bool
+not_lf b = not (eqb b 10)
+
+module _ (s : List ℕ) where
+  blank_bytes : (n p : ℕ) → length s ≤ p + n → list_all is_space (take_while not_lf (drop p s)) ≡ blank_to_end (chars (drop p s))
+  blank_bytes zero p m = let h : length s ≤ p = omega arith in rw (blank_end s p h, drop_of_length-le s h)
+  blank_bytes (suc n) p m =
+      elim (dec_lt p (length s)) [
+        | yes h ↦
+            ap (λ l. list_all is_space (take_while not_lf l)) (drop_next s p 0 h)
+            ∙ ap (list_all is_space) (take_while-cons not_lf (get_or s p 0) (drop (p + 1) s))
+            ∙ (⊎_elim
+            (λ (e : eqb (get_or s p 0) 10 ≡ true). rw e (sym (blank_lf s p h (eqb-true _ _ e))))
+            (λ (e : eqb (get_or s p 0) 10 ≡ false).
+            rw e
+            (⊎_elim
+            (λ (t : is_space (get_or s p 0) ≡ true). rw t (blank_bytes n (p + 1) (omega arith) ∙ sym (blank_next s p h (eqb-false _ _ e) t)))
+            (λ (t : is_space (get_or s p 0) ≡ false). rw t (sym (blank_other s p h (eqb-false _ _ e) t)))
+            (either (is_space (get_or s p 0)))))
+            (either (eqb (get_or s p 0) 10)))
+        | no h ↦ let k : length s ≤ p = omega arith in rw (blank_end s p k, drop_of_length-le s k)
+      ]
+
+  -- of what is left of the text after a place
+  pub blank_left : (p m : ℕ) → m ≡ min p (length s) → list_all is_space (take_while not_lf (take (length s - m) (drop m s))) ≡ blank_to_end (chars (drop p s))
+  blank_left p m is =
+      let whole : length s - m ≡ length (drop m s) = omega (arith, length-drop m s) in
+      rw (whole, take-length (drop m s))
+      (blank_bytes (length s) m (omega arith)
+      ∙ elim (dec_lt p (length s)) [
+        | yes h ↦ let e : m ≡ p = omega arith in rw e
+        | no h ↦ blank_end s m (omega arith) ∙ sym (blank_end s p (omega arith))
+      ])
 
 -- ---- the search for the comment's end
 module _ (s : List ℕ) (p : ℕ) (star : Bool) where

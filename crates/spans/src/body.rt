@@ -1,7 +1,6 @@
 // Bodies of raw strings and comments: where they end, and what they hold.
 ghost use Rattle.std.specs.Prelude.{◌≡◌, ◌<◌, length, drop};
 ghost use Rattle.utf8.specs.Chars.{char_at, chars};
-ghost use Rattle.utf8.specs.Count.{one};
 ghost use Rattle.spans.specs.Body.{stop_body, raw_body, line_body, block_body};
 ghost use Rattle.spans.specs.Steps.{empty_at, grown};
 ghost use Rattle.spans.specs.Counted.{Counted};
@@ -18,13 +17,6 @@ pub struct Body {
     pub lfs: usize,
     pub crs: usize,
     pub strays: usize,
-}
-
-// How many times a test holds.
-fn one_if(t: bool) -> usize
-    ensures { result ≡ one t }
-{
-    if t { 1 } else { 0 }
 }
 
 // A body of which nothing is read yet.
@@ -51,31 +43,31 @@ fn grow(src: &[u8], body: Body, last: bool) -> Body
     let chars = body.chars + 1;
     if b < 128 {
         let end = at + 1;
-        let lfs = body.lfs + one_if(b == b'\n');
-        let crs = body.crs + one_if(b == b'\r');
+        let lfs = body.lfs + usize::from(b == b'\n');
+        let crs = body.crs + usize::from(b == b'\r');
         return Body {
             end,
             chars,
             closed: last,
             lfs,
             crs,
-            strays: body.strays,
+            ..body
         };
     }
     let c = utf8::char_at(src, at);
     let end = at + c.width;
-    let strays = body.strays + one_if(utf8::is_stray(c));
+    let strays = body.strays + usize::from(utf8::is_stray(c));
     Body {
         end,
         chars,
         closed: last,
-        lfs: body.lfs,
-        crs: body.crs,
         strays,
+        ..body
     }
 }
 
 // A body to the first ASCII character `stop`, or to the end.
+// An index loop: a step goes over a block, a run or a character, so no `for` fits.
 fn body_to(src: &[u8], at: usize, stop: u8) -> Body
     requires { stop < 128 }
     ensures { result ≡ stop_body stop at (chars (drop at src.now)) }
@@ -117,6 +109,7 @@ pub fn line_body(src: &[u8], at: usize) -> Body
 }
 
 // Of a general comment, from after its opening.
+// An index loop: a step goes over a block or a character, so no `for` fits.
 pub fn block_body(src: &[u8], at: usize) -> Body
     ensures { result ≡ block_body at (chars (drop at src.now)) }
 {

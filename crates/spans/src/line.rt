@@ -1,5 +1,7 @@
 // Whether a general comment ends its line.
-ghost use Rattle.std.specs.Prelude.{◌≡◌, false, ◌<◌, length, drop};
+ghost use Rattle.std.specs.Prelude.{◌≡◌, false, not, ◌<◌, eqb, length, drop};
+ghost use Rattle.std.specs.List.{list_all, take_while};
+ghost use Rattle.blanks.specs.Blank.{is_space};
 ghost use Rattle.utf8.specs.Chars.{chars};
 ghost use Rattle.reader.specs.Read.{read_place};
 ghost use Rattle.spans.specs.Line.{blank_to_end, ends_line};
@@ -13,23 +15,20 @@ pub(crate) enum Stop {
     End { lf: bool },
 }
 
-// Are there only spaces, tabs and CRs from a place to an LF or the end?
-#[tactic(auto, using(crate::proofs::Lines::blank_other, crate::proofs::Lines::blank_next, crate::proofs::Lines::blank_lf, crate::proofs::Lines::blank_end))]
+// Has a text only spaces, tabs and CRs up to an LF or the end?
+fn is_blank_line(s: &[u8]) -> bool
+    ensures { result ≡ list_all is_space (take_while (λ b. not (eqb b 10)) s.now) }
+{
+    s.iter()
+        .take_while(|b| **b != b'\n')
+        .all(|b| blanks::is_space(*b))
+}
+
+// The same from a place on.
 fn blank_to_end(src: &[u8], at: usize) -> bool
     ensures { result ≡ blank_to_end (chars (drop at src.now)) }
 {
-    let mut p = at;
-    while p < src.len() {
-        let b = src[p];
-        if b == b'\n' {
-            return true;
-        }
-        if !blanks::is_space(b) {
-            return false;
-        }
-        p += 1;
-    }
-    true
+    is_blank_line(&src[at.min(src.len())..])
 }
 
 // The place after the character at a place. Most are ASCII: for those no reader is made.
@@ -44,6 +43,7 @@ fn next_place(src: &[u8], at: usize) -> usize
 }
 
 // Searches the end of a general comment, from after its opening, within its line.
+// A loop with a break value, and an enum of its own for it: the scope fixes this form.
 fn comment_end(src: &[u8], at: usize) -> Stop
     ensures { result ≡ stop_from at false (chars (drop at src.now)) }
 {

@@ -8,22 +8,11 @@ ghost use Rattle.words.specs.Word.{is_letter, word_len};
 ghost use Rattle.words.specs.Marks.{other_mark};
 ghost use Rattle.words.specs.Near.{near_run};
 
+#[tactic(auto, unfolding(crate::specs::Word::is_letter))]
 pub fn is_letter(b: u8) -> bool
     ensures { result ≡ is_letter b }
 {
-    if b < b'A' {
-        return false;
-    }
-    if b <= b'Z' {
-        return true;
-    }
-    if b == b'_' {
-        return true;
-    }
-    if b < b'a' {
-        return false;
-    }
-    b <= b'z'
+    matches!(b, b'A'..=b'Z' | b'_' | b'a'..=b'z')
 }
 
 // For each of eight bytes 0x80 where it is no letter and no digit, else 0. A test's answer is the
@@ -51,7 +40,8 @@ fn run_at(src: &[u8], at: usize) -> usize
 }
 
 // The place after the longest run of letters and digits at a place. (The answer would be the same
-// without the loop's test. With it, the load of eight bytes needs none.)
+// without the loop's test. With it, the load of eight bytes needs none. A step goes over eight
+// bytes, so no `for` fits.)
 pub fn word_end(src: &[u8], at: usize) -> usize
     ensures { result ≡ at + word_len (chars (drop at src.now)) }
 {

@@ -1,15 +1,21 @@
 -- There are two long keywords, and no others.
+use mathlib.Core.Bool.{false≢true}
 use mathlib.Core.Path.{sym, ◌∙◌}
-use Rattle.keywords.proofs.Words.{interface_named, fallthrough_named, long_unknown}
+use Rattle.std.proofs.lemmas.Slice.Eq.{slice_eq-Decides}
+use Rattle.std.proofs.lemmas.Bool.Decides.{Decides-eqb}
+use Rattle.keywords.proofs.Words.{long_unknown, interface_named, fallthrough_named}
 use Rattle.keywords.proofs.long_word.Goals as goal
 
-pub returns-then-is_same : goal.returns-then-is_same
-returns-then-is_same c = interface_named _ (sym c.is_same.ensures ∙ c.if-is_same.true)
+pub returns-then-eq : goal.returns-then-eq
+returns-then-eq c =
+    interface_named _ ((slice_eq-Decides Decides-eqb _ _ _ c.eq.ensures).0 c.if-eq.true ∙ c.as_slice.ensures)
 
-pub returns-then-is_same-2 : goal.returns-then-is_same-2
-returns-then-is_same-2 c = fallthrough_named _ (sym c.is_same-2.ensures ∙ c.if-is_same-2.true)
+pub returns-then-eq-2 : goal.returns-then-eq-2
+returns-then-eq-2 c =
+    fallthrough_named _ ((slice_eq-Decides Decides-eqb _ _ _ c.eq-2.ensures).0 c.if-eq-2.true ∙ c.as_slice-2.ensures)
 
 pub returns : goal.returns
 returns c =
     long_unknown _ c.requires
-    (sym c.is_same.ensures ∙ c.if-is_same.false) (sym c.is_same-2.ensures ∙ c.if-is_same-2.false)
+    (λ e. absurd (false≢true (sym c.if-eq.false ∙ (slice_eq-Decides Decides-eqb _ _ _ c.eq.ensures).1 (e ∙ sym c.as_slice.ensures))))
+    (λ e. absurd (false≢true (sym c.if-eq-2.false ∙ (slice_eq-Decides Decides-eqb _ _ _ c.eq-2.ensures).1 (e ∙ sym c.as_slice-2.ensures))))

@@ -1,9 +1,13 @@
 -- Each arm's row by computation; elsewhere no keyword has the slot.
 use Rattle.std.proofs.lemmas.Grind.{common_steps}
+use mathlib.Core.Bool.{false}
+use mathlib.Core.Path.{◌≡◌}
 use native.Mathlib.Omega.{arith}
 use Rattle.swar.specs.Number.{number_of}
+use Rattle.kinds.specs.Precedence.{among}
 use Rattle.kinds.specs.Table.{keywords}
 use Rattle.keywords.specs.Search.{slot_of, row_in}
+use Rattle.keywords.proofs.Search.{taken, no_row}
 use Rattle.keywords.proofs.row_in.Goals as goal
 
 pub returns-in-6 : goal.returns-in-6
@@ -99,5 +103,6 @@ unfolding row_in keywords number_of slot_of
 returns-in-55 c = rw c.in-55.is
 
 pub returns-in_default : goal.returns-in_default
-unfolding row_in keywords number_of slot_of
-returns-in_default c = grind (arith, common_steps)
+returns-in_default c =
+    let e : among c.args.slot taken ≡ false = grind (arith, common_steps) in
+    no_row c.args.slot e

@@ -8,8 +8,7 @@ use Rattle.basics.specs.Spelling.{spelled}
 use Rattle.utf8.specs.Chars.{chars}
 use Rattle.kinds.specs.Kinds.{ADD, ADD_ASSIGN, ASSIGN, COLON, COMMA, DEC, DEFINE, EQL, INC, LBRACE, LBRACK, LOR, LPAREN, MUL, MUL_ASSIGN, NEQ, NOT, OR, OR_ASSIGN, QUO, QUO_ASSIGN, RBRACE, RBRACK, REM, REM_ASSIGN, RPAREN, SEMICOLON, SUB, SUB_ASSIGN, XOR, XOR_ASSIGN}
 use Rattle.kinds.specs.Table.{operators}
-use Rattle.operators.specs.declared.Operator.{Operator}
-use Rattle.operators.specs.Longest.{op, no_operator, operator_of}
+use Rattle.operators.specs.Longest.{OperatorSaid, op, no_operator, operator_of}
 use Rattle.operators.specs.Steps.{switch2, switch3, less_by, greater_by, and_by, period_by}
 use Rattle.operators.proofs.Leading.{among}
 use Rattle.operators.proofs.Rows.{row, NotIn, one_is, switch2_is, switch2_last_is, switch3_is, less_is, greater_is, and_is, period_is, none_is, end_is}
@@ -32,7 +31,7 @@ module _ (c : After-byte-b) where
   abbrev place : ℕ
   place = c.args.at
 
-  abbrev found : Operator
+  abbrev found : OperatorSaid
   found = operator_of (chars (drop place text))
 
   module _ (a : ℕ) (e : get_or text place 0 ≡ a) where

@@ -3,7 +3,8 @@ use Prim.Native.Char.{code}
 use mathlib.Core.Path.{sym}
 use lib.Seq.{length-take-le}
 use Rattle.quantity.specs.Text.{decimal_in}
-use Rattle.quantity.proofs.Texts.{place_within, rest_all}
+use Rattle.digits.proofs.First.{rest_all}
+use Rattle.quantity.proofs.Texts.{place_within}
 use Rattle.quantity.proofs.decimal.Goals as goal
 
 pub slice_bounds-decimal_by-end : goal.slice_bounds-decimal_by-end

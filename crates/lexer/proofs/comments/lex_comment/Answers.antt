@@ -5,12 +5,11 @@ use mathlib.Core.Bool.{◌&&◌, false, and-false}
 use mathlib.Core.Logic.{⊎_elim}
 use native.Mathlib.Omega.{arith}
 use lib.ListN.{get_or, drop}
-use Rattle.basics.proofs.Lists.{reach}
 use Rattle.utf8.specs.Chars.{chars}
 use Rattle.spans.specs.Line.{ends_line}
 use Rattle.lexer.proofs.SpannedTokens.{comment_inserted, comment_kept}
 use Rattle.lexer.proofs.comments.lex_comment.Goals as goal
-use Rattle.lexer.proofs.comments.lex_comment.Goals.{Else-second-eq47, Joined-mark-2, else-mark-2, then-mark-2+else-ends_line}
+use Rattle.lexer.proofs.comments.lex_comment.Goals.{Else-second-eq47, else-mark-2-via-then-mark-2+else-ends_line, else-mark-2-via-else-mark-2}
 
 pub returns-then-mark : goal.returns-then-mark
 returns-then-mark c =
@@ -28,10 +27,6 @@ returns-then-second-eq47 c =
 star : (c : Else-second-eq47) → get_or c.args.src.now (c.args.at + 1) 0 ≡ 42
 star c = c.requires.1 ∙ ⊎_elim (λ e. absurd (c.if-second-eq47.false e)) (λ e. e) c.requires.2
 
-pub overflow_add-at : goal.overflow_add-at
-overflow_add-at c =
-    omega (arith, reach c.args.src.now c.args.at (omega (arith, c.requires.0)), c.well_formed.0.1)
-
 pub returns-then-ends_line : goal.returns-then-ends_line
 returns-then-ends_line c =
     rw c.inserted_semicolon-then-ends_line.ensures
@@ -42,12 +37,13 @@ pub general_comment-requires : goal.general_comment-requires
 general_comment-requires c = (c.requires.0, star (goal.at.general_comment-requires c).Else-second-eq47)
 
 -- with no mark, or where the comment does not end its line
-kept : (c : Joined-mark-2) → c.args.mark && ends_line false (chars (drop (c.args.at + 2) c.args.src.now)) ≡ false
-kept c =
-    let m = c.args.mark in
-    elim c.if-mark-2.branch [ then-mark-2+else-ends_line w ↦ rw (sym w.ends_line.ensures ∙ w.if-ends_line.false) (and-false m) | else-mark-2 w ↦ rw w.if-mark-2.false ]
-
 pub returns : goal.returns
 returns c =
+    let a = c.args in
+    let kept : a.mark && ends_line false (chars (drop (a.at + 2) a.src.now)) ≡ false =
+    elim c.else-mark-2.branch [
+      | else-mark-2-via-then-mark-2+else-ends_line w ↦ rw (sym w.ends_line.ensures ∙ w.if-ends_line.false) (and-false a.mark)
+      | else-mark-2-via-else-mark-2 w ↦ rw w.if-mark-2.false
+    ] in
     c.general_comment.ensures
-    ∙ comment_kept c.args.src.now c.args.at 42 (omega arith) (omega arith) c.requires.0 (star (goal.at.returns c).Else-second-eq47) c.args.mark (kept (goal.at.returns c).Joined-mark-2)
+    ∙ comment_kept a.src.now a.at 42 (omega arith) (omega arith) c.requires.0 (star (goal.at.returns c).Else-second-eq47) a.mark kept

@@ -1,8 +1,10 @@
 -- `lexer::lex::lex_illegal` meets its contract: one character, a stray byte or not.
-use mathlib.Core.Path.{sym, ◌∙◌}
-use mathlib.Core.Bool.{true, false}
+use mathlib.Core.Path.{◌≡◌, refl}
+use mathlib.Core.Bool.{Bool, true, false, cond}
 use native.Mathlib.Omega.{arith}
 use borrow.Author.Rules.{rules}
+use mir.Val.{bool_byte}
+use Rattle.utf8.specs.Chars.{is_stray}
 use Rattle.utf8.proofs.First.{there_fits}
 use Rattle.lexer.proofs.Tokens.{illegal_said}
 use Rattle.lexer.proofs.lex.lex_illegal.Goals as goal
@@ -12,12 +14,13 @@ overflow_add-at c =
     let a = c.args in
     omega (arith, there_fits a.src.now a.at c.char_from-c.result (search rules) c.char_from-c.ensures)
 
-pub returns-then-is_stray : goal.returns-then-is_stray
-returns-then-is_stray c =
-    rw c.unknown_token-x.ensures
-    (illegal_said c.args.src.now c.args.at c.requires.0 c.args.mark c.requires.1 c.requires.2 c.requires.3 _ true c.char_from-c.ensures (sym c.is_stray.ensures ∙ c.if-is_stray.true))
+-- a flag counts as one or none
+counted : (b : Bool) → bool_byte b ≡ cond b 1 0
+counted true = refl
+counted false = refl
 
-pub returns-else-is_stray : goal.returns-else-is_stray
-returns-else-is_stray c =
-    rw c.unknown_token-x.ensures
-    (illegal_said c.args.src.now c.args.at c.requires.0 c.args.mark c.requires.1 c.requires.2 c.requires.3 _ false c.char_from-c.ensures (sym c.is_stray.ensures ∙ c.if-is_stray.false))
+pub returns : goal.returns
+returns c =
+    let a = c.args in
+    rw (c.unknown_token.ensures, c.from.ensures, c.is_stray-stray.ensures, counted (is_stray c.char_from-c.result))
+    (illegal_said a.src.now a.at c.requires.0 a.mark c.requires.1 c.requires.2 c.requires.3 c.char_from-c.result c.char_from-c.ensures)

@@ -1,15 +1,18 @@
 -- `lexer::lex::lex_operator` meets its contract: an operator, or a character that starts none.
-use mathlib.Core.Path.{ap, ◌∙◌}
+use mathlib.Core.Path.{sym, ap, ◌∙◌}
 use native.Mathlib.Omega.{arith}
 use borrow.Author.Rules.{rules}
+use Rattle.kinds.specs.declared.kind.Kind.TheVariants.{Illegal}
+use Rattle.kinds.proofs.Tags.{kind_tag, same_number, other_number}
 use Rattle.lexer.specs.Placed.{said, placed}
-use Rattle.lexer.proofs.Tokens.{operator_fits, operator_said, no_operator}
+use Rattle.lexer.proofs.Tokens.{operator_fits, operator_token, no_operator}
 use Rattle.lexer.proofs.lex.lex_operator.Goals as goal
 
-pub returns-then-kind-eq-ILLEGAL : goal.returns-then-kind-eq-ILLEGAL
-returns-then-kind-eq-ILLEGAL c =
+pub returns-then-eq : goal.returns-then-eq
+returns-then-eq c =
     let a = c.args in
-    c.lex_illegal.ensures ∙ ap (placed a.src.now a.at) (no_operator a.src.now a.at a.mark c.scan_operator-o.result c.scan_operator-o.ensures c.if-kind-eq-ILLEGAL.true)
+    let o = c.scan_operator-o in
+    c.lex_illegal.ensures ∙ ap (placed a.src.now a.at) (no_operator a.src.now a.at a.mark o.result o.ensures (same_number o.result.kind Illegal (sym c.eq.ensures ∙ c.if-eq.true)))
 
 pub overflow_add-at : goal.overflow_add-at
 overflow_add-at c =
@@ -19,5 +22,6 @@ overflow_add-at c =
 pub returns : goal.returns
 returns c =
     let a = c.args in
-    ap (said a.src.now a.at) (c.bare.ensures ∙ rw c.sets_mark.ensures)
-    ∙ operator_said a.src.now a.at a.mark c.scan_operator-o.result c.scan_operator-o.ensures c.if-kind-eq-ILLEGAL.false
+    let o = c.scan_operator-o in
+    ap (said a.src.now a.at) (c.bare.ensures ∙ rw (c.sets_mark.ensures, kind_tag o.result.kind))
+    ∙ operator_token a.src.now a.at a.mark o.result o.ensures (other_number o.result.kind Illegal (sym c.eq.ensures ∙ c.if-eq.false))

@@ -2,19 +2,12 @@
 use Prim.Native.Nat.{◌+◌}
 use mathlib.Core.Path.{refl, sym, ap, ◌∙◌}
 use native.Mathlib.Omega.{arith}
-use lib.ListN.{get_or}
 use borrow.Author.Rules.{rules}
-use Rattle.kinds.specs.Kinds.{ILLEGAL}
+use Rattle.kinds.specs.declared.kind.Kind.TheVariants.{Illegal}
 use Rattle.lexer.specs.Placed.{said, placed}
 use Rattle.lexer.proofs.Tokens.{shown_said}
-use Rattle.lexer.proofs.Dispatch.{slashes, comment_is, points_ascii, points_is, operator_is}
+use Rattle.lexer.proofs.Dispatch.{comment_is, points_ascii, points_is, operator_is}
 use Rattle.lexer.proofs.lex.lex_other.Goals as goal
-
-pub lex_comment-requires : goal.lex_comment-requires
-lex_comment-requires c =
-    let a = c.args in
-    let t = slashes (get_or a.src.now a.at 0) a.second (sym c.starts_comment.ensures ∙ c.if-starts_comment.true) in
-    (t.0, search rules, t.1)
 
 pub returns-then-starts_comment : goal.returns-then-starts_comment
 returns-then-starts_comment c =
@@ -28,7 +21,7 @@ returns-then-is_two_points c =
     let t = sym c.is_two_points.ensures ∙ c.if-is_two_points.true in
     let p = points_ascii a.src.now a.at _ t in
     ap (said a.src.now a.at) c.unknown_token.ensures
-    ∙ shown_said a.src.now a.at (a.at + 2) 2 ILLEGAL a.mark p.0 refl (λ e. omega arith) _ (omega arith) refl p.1 p.2
+    ∙ shown_said a.src.now a.at (a.at + 2) 2 Illegal a.mark p.0 refl (λ e. omega arith) _ (omega arith) refl p.1 p.2
     ∙ ap (placed a.src.now a.at) (points_is a.mark a.src.now a.at (search rules) a.second (search rules) (search rules) t)
 
 pub returns : goal.returns

@@ -7,11 +7,10 @@ use native.Mathlib.Omega.{arith}
 use native.Mathlib.Nat.{add-zero}
 use lib.Dec.{eqb}
 use lib.ListN.{length, get_or, drop}
-use borrow.Author.Tests.{ne_eqb}
 use borrow.Author.Rules.{rules}
 use Rattle.basics.proofs.Choice.{none_of}
 use Rattle.utf8.specs.Chars.{chars}
-use Rattle.kinds.specs.Kinds.{EOF}
+use Rattle.kinds.specs.declared.kind.Kind.TheVariants.{Eof}
 use Rattle.digits.specs.Digit.{is_decimal}
 use Rattle.words.specs.Word.{is_letter}
 use Rattle.lexer.specs.Placed.{said, placed}
@@ -33,15 +32,12 @@ pub returns-then-src-at : goal.returns-then-src-at
 returns-then-src-at c =
     let a = c.args in
     ap (said a.src.now a.at) c.bare.ensures
-    ∙ bare_said a.src.now a.at a.at 0 EOF false (ascii_none (chars (drop a.at a.src.now))) (sym (add-zero a.at)) (λ e. omega arith)
+    ∙ bare_said a.src.now a.at a.at 0 Eof false (ascii_none (chars (drop a.at a.src.now))) (sym (add-zero a.at)) (λ e. omega arith)
     ∙ ap (placed a.src.now a.at) (end_unmarked a.mark a.src.now a.at c.if-src-at.true c.if-mark.false)
 
 -- ---- a letter
 letter : (c : Then-is_letter) → let a = c.args in is_letter (get_or a.src.now a.at 0) ≡ true
 letter c = sym c.is_letter.ensures ∙ c.if-is_letter.true
-
-pub lex_word-requires : goal.lex_word-requires
-lex_word-requires c = (search rules, letter (goal.at.lex_word-requires c).Then-is_letter)
 
 pub returns-then-is_letter : goal.returns-then-is_letter
 returns-then-is_letter c =
@@ -80,13 +76,6 @@ no_number : (c : Else-starts_number)
     → let a = c.args in
     (is_decimal (get_or a.src.now a.at 0) ≡ false) × (eqb (get_or a.src.now a.at 0) (code ".") && is_decimal c.byte-second.result ≡ false)
 no_number c = none_of _ _ (sym c.starts_number.ensures ∙ c.if-starts_number.false)
-
-pub lex_other-requires : goal.lex_other-requires
-lex_other-requires c =
-    let n = no_number (goal.at.lex_other-requires c).Else-starts_number in
-    let f : get_or c.args.src.now c.args.at 0 ≡ 10 → ⊥ = omega arith in
-    let w : get_or c.args.src.now c.args.at 0 ≡ 96 → ⊥ = omega arith in
-    ((there (goal.at.lex_other-requires c).Else-is_letter, ne_eqb _ 10 f, n.0, ne_eqb _ 96 w), second (goal.at.lex_other-requires c).Else-is_letter, n.1)
 
 pub returns-in-10 : goal.returns-in-10
 returns-in-10 c =

@@ -4,20 +4,17 @@ use native.Mathlib.Omega.{arith}
 use Rattle.lexer.proofs.Numerals.{gained_most, number_end, numeral_said}
 use Rattle.lexer.proofs.number.lex_number.Goals as goal
 
-pub made-x-requires : goal.made-x-requires
-made-x-requires c = let e = ap (λ x. x.end) c.scan_number-n.ensures in omega (arith, e)
+pub overflow_sub-chars : goal.overflow_sub-chars
+overflow_sub-chars c = omega (arith, ap (λ x. x.end) c.scan_number-n.ensures)
 
-pub overflow_sub-x : goal.overflow_sub-x
-overflow_sub-x c = let e = ap (λ x. x.end) c.scan_number-n.ensures in omega (arith, e)
-
-pub overflow_add-x : goal.overflow_add-x
-overflow_add-x c =
+pub overflow_add-text : goal.overflow_add-text
+overflow_add-text c =
     let n = c.scan_number-n in
     let a = c.args in
-    let e = ap (λ x. x.end) n.ensures in
-    omega (arith, e, number_end a.src.now a.at c.requires.0, c.gained.ensures, gained_most n.result.spelling)
+    omega (arith, ap (λ x. x.end) n.ensures, number_end a.src.now a.at c.requires.0, c.gained.ensures, gained_most n.result.spelling)
 
 pub returns : goal.returns
 returns c =
     let n = c.scan_number-n in
-    rw (c.made-x.ensures, c.gained.ensures, c.respelled.ensures, n.ensures) (numeral_said c.args.src.now c.args.at c.requires.1)
+    rw (c.bare.ensures, c.gained.ensures, c.respelled.ensures, ap (λ x. x.end) n.ensures, ap (λ x. x.spelling) n.ensures)
+    (numeral_said c.args.src.now c.args.at c.requires.1 n.result.kind n.result.error (ap (λ x. x.kind) n.ensures) (ap (λ x. x.error) n.ensures))

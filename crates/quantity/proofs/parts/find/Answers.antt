@@ -1,22 +1,16 @@
+-- `quantity::parts::find` meets its contract: the search is the definition's.
 use mathlib.Core.Path.{sym, ◌∙◌}
-use native.Mathlib.Nat.{zero-add}
-use Rattle.quantity.proofs.Texts.{place_end, place_here, place_on}
+use lib.Dec.{eqb}
+use borrow.Author.Rules.{rules}
+use borrow.Author.Tests.{tests}
+use Rattle.std.proofs.lemmas.Iterator.{YieldsList-from_slice}
+use Rattle.std.proofs.lemmas.Iterator.Search.{position_from_yields_List}
+use Rattle.digits.proofs.First.{first_or_all}
+use Rattle.quantity.proofs.Texts.{first_is}
 use Rattle.quantity.proofs.parts.find.Goals as goal
-
-pub loop-p-init : goal.loop-p-init
-loop-p-init c = sym (zero-add _)
-
-pub returns-then-text-p : goal.returns-then-text-p
-returns-then-text-p c =
-    let a = c.args in
-    sym (c.loop-p.invariant ∙ place_here a.c a.text.now c.loop-p.p c.loop-p-test.true c.if-text-p.true)
-
-pub loop-p-preserved : goal.loop-p-preserved
-loop-p-preserved c =
-    let a = c.args in
-    c.loop-p.invariant ∙ place_on a.c a.text.now c.loop-p.p c.loop-p-test.true c.if-text-p.false
 
 pub returns : goal.returns
 returns c =
-    let a = c.args in
-    sym (c.loop-p.invariant ∙ place_end a.c a.text.now c.loop-p.p c.loop-p-test.false)
+    let text = c.args.text.now in
+    let found = position_from_yields_List (λ b. eqb b c.args.c) _ _ c.position.result c.position.ensures.ran (YieldsList-from_slice text c.iter.ensures.rest) (λ x b q k. search (rules, tests)) in
+    c.unwrap_or.ensures ∙ first_or_all (λ b. eqb b c.args.c) text c.position.result found ∙ sym (first_is c.args.c text)

@@ -1,37 +1,27 @@
+-- `quantity::whole::scaled` meets its contract: by what the library's power and product say.
 use Prim.Native.Nat.{◌*◌, ◌^◌}
-use mathlib.Core.Path.{◌≡◌, refl, sym, ap, ◌∙◌}
+use mathlib.Core.Path.{◌≡◌, sym, ap, ◌∙◌}
 use native.Mathlib.Omega.{arith}
-use native.Mathlib.Nat.{zero-mul, le_trans}
-use Rattle.quantity.proofs.Capped.{fits, over, times_fits, times_over, one_less, no_more, least}
+use native.Mathlib.Nat.{zero-mul, mul_comm}
+use Rattle.digits.specs.Base.{base_number}
+use Rattle.quantity.proofs.Capped.{fits, over, capped_is, base_two, far, far_power}
 use Rattle.quantity.proofs.whole.scaled.Goals as goal
 
 pub returns-then-m-eq0 : goal.returns-then-m-eq0
-returns-then-m-eq0 c = let a = c.args in rw (c.if-m-eq0.true, zero-mul (a.base ^ a.n)) (sym (fits 0 (omega arith)))
+returns-then-m-eq0 c = let a = c.args in rw (c.if-m-eq0.true, zero-mul (base_number a.base ^ a.n)) (sym (fits 0 (omega arith)))
 
-pub loop-left-init : goal.loop-left-init
-loop-left-init c = (omega arith, refl)
+pub returns-then-n-ge64 : goal.returns-then-n-ge64
+returns-then-n-ge64 c = let a = c.args in sym (over _ (far (base_number a.base) (base_two a.base) a.m a.n (omega (arith, c.if-m-eq0.false)) c.if-n-ge64.true))
 
-pub returns-then-most-x : goal.returns-then-most-x
-returns-then-most-x c =
+pub returns-in_err-checked_pow : goal.returns-in_err-checked_pow
+returns-in_err-checked_pow c =
     let a = c.args in
-    sym (over _ (rw (← c.loop-left.invariant.1, one_less a.base c.requires.0 c.loop-left.x c.loop-left.left c.loop-left-test.true)
-    (le_trans (times_over a.base c.requires.0 a.most c.requires.1 c.loop-left.x c.if-most-x.true) (least a.base c.requires.0 (c.loop-left.x * a.base) _))))
-
-pub overflow_mul-x : goal.overflow_mul-x
-overflow_mul-x c =
-    let a = c.args in
-    record { fits = times_fits a.base c.requires.0 a.most c.requires.1 c.loop-left.x c.if-most-x.false }
-
-pub loop-left-preserved : goal.loop-left-preserved
-loop-left-preserved c =
-    let a = c.args in (
-      times_fits a.base c.requires.0 a.most c.requires.1 c.loop-left.x c.if-most-x.false,
-      sym (one_less a.base c.requires.0 c.loop-left.x c.loop-left.left c.loop-left-test.true) ∙ c.loop-left.invariant.1,
-    )
+    let none = rw c.number.ensures at c.in_err-checked_pow.ensures in
+    c.from_residual.ensures ∙ sym (over _ (far_power (base_number a.base) (base_two a.base) a.m a.n (omega (arith, c.if-m-eq0.false)) (omega (arith, none))))
 
 pub returns : goal.returns
 returns c =
     let a = c.args in
-    let z : c.loop-left.left ≡ 0 = omega arith in
-    let e : c.loop-left.x ≡ a.m * a.base ^ a.n = sym (ap (λ i. c.loop-left.x * a.base ^ i) z ∙ no_more a.base c.requires.0 c.loop-left.x) ∙ c.loop-left.invariant.1 in
-    rw (← e) (sym (fits _ c.loop-left.invariant.0))
+    let power = c.in_ok-checked_pow.ensures.1 ∙ ap (λ b. b ^ a.n) c.number.ensures in
+    let e : c.in_ok-checked_pow.field-0 * a.m ≡ a.m * base_number a.base ^ a.n = mul_comm c.in_ok-checked_pow.field-0 a.m ∙ ap (λ y. a.m * y) power in
+    capped_is (a.m * base_number a.base ^ a.n) c.checked_mul.result (rw e at c.checked_mul.ensures)

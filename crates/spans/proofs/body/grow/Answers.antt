@@ -7,22 +7,23 @@ use lib.ListN.{get_or}
 use Rattle.utf8.proofs.First.{there_fits}
 use Rattle.utf8.specs.Count.{one}
 use Rattle.utf8.proofs.Count.{le_one}
+use Rattle.spans.proofs.Counts.{byte_one}
 use Rattle.spans.proofs.Bodies.{grown_ascii, grown_wide}
 use Rattle.spans.proofs.body.grow.Goals as goal
 
 pub overflow_add-lfs : goal.overflow_add-lfs
 overflow_add-lfs c =
     let a = c.args in
-    omega (arith, le_one _ (eqb (get_or a.src.now a.body.end 0) (code "\n")) c.one_if.ensures)
+    omega (arith, le_one _ (eqb (get_or a.src.now a.body.end 0) (code "\n")) (c.from.ensures ∙ byte_one _))
 
 pub overflow_add-crs : goal.overflow_add-crs
 overflow_add-crs c =
     let a = c.args in
-    omega (arith, le_one _ (eqb (get_or a.src.now a.body.end 0) (code "\r")) c.one_if-then-b-lt128.ensures)
+    omega (arith, le_one _ (eqb (get_or a.src.now a.body.end 0) (code "\r")) (c.from-then-b-lt128.ensures ∙ byte_one _))
 
 pub returns-then-b-lt128 : goal.returns-then-b-lt128
 returns-then-b-lt128 c =
-    grown_ascii c.args.src.now c.args.body c.requires.0 c.args.last c.if-b-lt128.true _ _ c.one_if.ensures c.one_if-then-b-lt128.ensures
+    grown_ascii c.args.src.now c.args.body c.requires.0 c.args.last c.if-b-lt128.true _ _ (c.from.ensures ∙ byte_one _) (c.from-then-b-lt128.ensures ∙ byte_one _)
 
 pub overflow_add-end-2 : goal.overflow_add-end-2
 overflow_add-end-2 c =
@@ -30,10 +31,10 @@ overflow_add-end-2 c =
     omega (arith, there_fits _ _ r.result c.requires.0 r.ensures)
 
 pub overflow_add-strays : goal.overflow_add-strays
-overflow_add-strays c = omega (arith, le_one _ c.is_stray.result c.one_if-2.ensures)
+overflow_add-strays c = omega (arith, le_one _ c.is_stray.result (c.from-2.ensures ∙ byte_one _))
 
 pub returns : goal.returns
 returns c =
     let r = c.char_at-c in
     grown_wide c.args.src.now c.args.body c.requires.0 c.args.last c.if-b-lt128.false r.result r.ensures _
-    (c.one_if-2.ensures ∙ ap one c.is_stray.ensures)
+    (c.from-2.ensures ∙ byte_one _ ∙ ap one c.is_stray.ensures)

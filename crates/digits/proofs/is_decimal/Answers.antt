@@ -1,9 +1,0 @@
--- `digits::is_decimal` meets its contract: the first test that fails decides, and otherwise the second test is the answer.
-use borrow.Author.Tests.{le-leb, lt-leb}
-use Rattle.digits.proofs.is_decimal.Goals as goal
-
-pub returns-then-b-ge48 : goal.returns-then-b-ge48
-returns-then-b-ge48 c = simp (le-leb _ _ c.if-b-ge48.true)
-
-pub returns-else-b-ge48 : goal.returns-else-b-ge48
-returns-else-b-ge48 c = simp (lt-leb _ _ c.if-b-ge48.false)

@@ -1,0 +1,85 @@
+// ASCII characters that are written as themselves, and the quotes that end their runs.
+ghost use Rattle.std.specs.Prelude.{◌≡◌, ◌+◌, ◌≤◌, min, length, drop};
+ghost use Rattle.std.specs.List.{prefix_len};
+ghost use Rattle.swar.specs.Lanes.{lanes};
+ghost use Rattle.quotes.specs.Literal.{double_quote};
+ghost use Rattle.quotes.specs.Plain.{is_plain_byte, plain_len};
+ghost use Rattle.quotes.specs.Steps.{quote_code, stop_mark};
+
+// The quote of a literal.
+#[derive(Clone, Copy)]
+pub(crate) enum Quote {
+    Single,
+    Double,
+}
+
+impl Quote {
+    pub(crate) fn byte(self) -> u8
+        ensures { result ≡ quote_code self }
+    {
+        match self {
+            Quote::Single => b'\'',
+            Quote::Double => b'"',
+        }
+    }
+}
+
+// Is a byte an ASCII character that is written as itself?
+#[tactic(auto, unfolding(crate::specs::Plain::is_plain_byte), using(std::proofs::lemmas::Bool::Decides::nat_tests))]
+fn is_plain(b: u8, quote: Quote) -> bool
+    ensures { result ≡ is_plain_byte (quote_code quote) b }
+{
+    b != quote.byte() && b != b'\n' && b != b'\\' && b < 128
+}
+
+// How many such characters a text begins with; byte by byte.
+fn plain_run(s: &[u8], quote: Quote) -> usize
+    ensures { result ≡ prefix_len (is_plain_byte (quote_code quote)) s.now }
+{
+    s.iter().take_while(|b| is_plain(**b, quote)).count()
+}
+
+// For each of eight bytes 0x80 where it is the quote, a backslash, a line feed or above 127, else
+// 0. A test's answer is the top bit of each byte: that of a sum with the byte's low seven bits,
+// which never reaches into the next byte.
+fn stops(w: u64, quote: Quote) -> u64
+    ensures { result ≡ lanes 8 (stop_mark (quote_code quote)) w }
+{
+    let low = w & 0x7F7F_7F7F_7F7F_7F7F;
+    let no_quote = (low ^ (quote.byte() as u64 * 0x0101_0101_0101_0101)) + 0x7F7F_7F7F_7F7F_7F7F;
+    let no_lf = (low ^ (b'\n' as u64 * 0x0101_0101_0101_0101)) + 0x7F7F_7F7F_7F7F_7F7F;
+    let no_slash = (low ^ (b'\\' as u64 * 0x0101_0101_0101_0101)) + 0x7F7F_7F7F_7F7F_7F7F;
+    (!(no_lf & no_slash & no_quote) | w) & 0x8080_8080_8080_8080
+}
+
+// How many of the eight bytes at a place come before the first of those.
+fn plain_at(src: &[u8], at: usize, quote: Quote) -> usize
+    requires { at + 8 ≤ length src.now }
+    ensures { result ≡ min 8 (plain_len (quote_code quote) (drop at src.now)) }
+{
+    u64::trailing_zeros(stops(swar::eight(src, at), quote)) as usize / 8
+}
+
+// The place of the first of those from a place on, or the end; by eight bytes where they are there.
+// An index loop: a step goes over eight bytes, so no `for` fits.
+pub(crate) fn plain_end(src: &[u8], at: usize, quote: Quote) -> usize
+    ensures { result ≡ at + plain_len (quote_code quote) (drop at src.now) }
+{
+    let mut p = at;
+    while swar::has_eight(src, p) {
+        let n = plain_at(src, p, quote);
+        if n < 8 {
+            return p + n;
+        }
+        p += 8;
+    }
+    p + plain_run(&src[p.min(src.len())..], quote)
+}
+
+// The place of the first byte from a place on that is no plain character of a string: a quote, a
+// backslash, a line feed, one above 127, or the end.
+pub fn plain_string(src: &[u8], at: usize) -> usize
+    ensures { result ≡ at + plain_len double_quote (drop at src.now) }
+{
+    plain_end(src, at, Quote::Double)
+}
