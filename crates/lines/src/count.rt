@@ -5,7 +5,9 @@ ghost use Rattle.lines.specs.Starts.{starts_read};
 
 use crate::step;
 
-// How many starts the characters at a place give, so many of them.
+// How many starts the characters at a place give, so many of them. (`write_starts` walks as this
+// does. One walk for both would take a closure that may end it, and both contracts would have to
+// follow from that closure's steps: that is no plainer.)
 pub fn count_starts(src: &[u8], at: usize, count: usize, offset: usize, size: usize) -> usize
     ensures { result ≡ length (starts_read size offset (take count (chars (drop at src.now)))) }
 {
@@ -13,6 +15,7 @@ pub fn count_starts(src: &[u8], at: usize, count: usize, offset: usize, size: us
     let mut p = at;
     let mut o = offset;
     let mut n = 0;
+    // A step goes over one character, of one to four bytes, so no `for` fits.
     while o < end {
         if src.len() <= p {
             return n;

@@ -28,6 +28,7 @@ pub fn write_starts(
     let mut p = at;
     let mut o = offset;
     let mut n = lines;
+    // A step goes over one character, of one to four bytes, so no `for` fits.
     while o < end {
         if src.len() <= p {
             return;

@@ -3,13 +3,6 @@
 ghost use Rattle.std.specs.Prelude.{◌≡◌, ◌+◌, ◌-◌, ◌<◌, min, length};
 ghost use Rattle.utf8.specs.Chars.{char_at};
 
-// The lesser of two counts.
-fn least(a: usize, b: usize) -> usize
-    ensures { result ≡ min a b }
-{
-    if a < b { a } else { b }
-}
-
 // The offset before which a character can give a start: one that is below the size. So many
 // characters are read from an offset on.
 pub(crate) fn end_offset(count: usize, offset: usize, size: usize) -> usize
@@ -18,7 +11,7 @@ pub(crate) fn end_offset(count: usize, offset: usize, size: usize) -> usize
     if size <= offset {
         return offset;
     }
-    offset + least(count, size - 1 - offset)
+    offset + usize::min(count, size - 1 - offset)
 }
 
 // The place after the character at a place. Most are ASCII.

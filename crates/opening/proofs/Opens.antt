@@ -1,5 +1,5 @@
 -- What opening comes to, case by case.
-use Prim.Native.Nat.{ℕ, ◌+◌, ◌≤◌, ◌<◌}
+use Prim.Native.Nat.{ℕ, ◌≤◌, ◌<◌}
 use mathlib.Core.Path.{◌≡◌, refl, ap}
 use mathlib.Core.Bool.{Bool, true, false, cond, and-false}
 use mathlib.Core.List.{List}
@@ -10,7 +10,8 @@ use borrow.Author.Tests.{le-leb, lt-leb, lt-ltb, le-ltb}
 use Rattle.utf8.specs.Chars.{chars, well_formed, bytes_before}
 use Rattle.validation.specs.Answers.{Checking, valid, not_utf8, checked_of}
 use Rattle.refusal.specs.Outcome.{gave}
-use Rattle.position.specs.Place.{max_position, in_range}
+use Rattle.position.specs.Place.{in_range}
+use Rattle.state.specs.Fits.{file_of}
 use Rattle.state.specs.State.{fresh}
 use Rattle.opening.specs.Opening.{max_source, open_refused, begun_of, open_of}
 
@@ -28,19 +29,20 @@ module _ (base size : ℕ) (table : List ℕ) where
     pub begin_small : size < n → begun_of n base size table ≡ open_refused 3 none table
     begin_small h = rw (lt-leb _ _ h)
 
-    pub begin_high : max_position < base + size → begun_of n base size table ≡ open_refused 3 none table
-    unfolding in_range
-    begin_high h = rw (lt-leb _ _ h, and-false)
+    -- the file of the first state is the one whose base + size is tested
+    pub begin_high : in_range (file_of (fresh base size)) ≡ false → begun_of n base size table ≡ open_refused 3 none table
+    unfolding fresh
+    begin_high h = rw (h, and-false)
 
-    module _ (h : n ≤ size) (g : base + size ≤ max_position) where
+    module _ (h : n ≤ size) (g : in_range (file_of (fresh base size)) ≡ true) where
       pub begin_full : length table ≡ 0 → begun_of n base size table ≡ open_refused 7 none table
-      unfolding in_range
-      begin_full z = rw (le-leb _ _ h, le-leb _ _ g, z)
+      unfolding fresh
+      begin_full z = rw (le-leb _ _ h, g, z)
 
       pub begin_ready : (length table ≡ 0 → ⊥) → begun_of n base size table
           ≡ record { table = set table 0 0; outcome = gave (record { state = fresh base size; chars = n }); place = none }
-      unfolding fresh in_range
-      begin_ready z = rw (le-leb _ _ h, le-leb _ _ g, le-ltb (length table) 1 (omega arith))
+      unfolding fresh
+      begin_ready z = rw (le-leb _ _ h, g, le-ltb (length table) 1 (omega arith))
 
   module _ (src : List ℕ) where
     pub open_long : max_source < length src → open_of src base size table ≡ open_refused 2 none table

@@ -1,14 +1,15 @@
 -- Opening a text.
-use Rattle.std.specs.Prelude.{ℕ, Bool, cond, not, ◌&&◌, List, ltb, leb, length, set}
+use Rattle.std.specs.Prelude.{ℕ, Bool, cond, not, ◌&&◌, List, ltb, leb, length, set, Result, Ok, Err}
 use Rattle.std.proofs.Math.Option.{Option, some, none}
 use Rattle.utf8.specs.Chars.{chars, well_formed, bytes_before}
-use Rattle.refusal.specs.Outcome.{Outcome, refused, gave}
+use Rattle.refusal.specs.Outcome.{Outcome, refused, gave, refusal_number}
 use Rattle.refusal.specs.Refusals.{NOT_UTF8, TOO_LONG, BAD_SIZE, TABLE_FULL}
 use Rattle.position.specs.Place.{in_range}
 use Rattle.state.specs.declared.state.State.{State}
 use Rattle.state.specs.State.{fresh}
 use Rattle.opening.specs.declared.Opened.{Opened}
-use Rattle.opening.specs.declared.Opened.TheVariants.{Ready, NotUtf8, Refused}
+use Rattle.opening.specs.declared.NotOpened.{NotOpened}
+use Rattle.opening.specs.declared.NotOpened.TheVariants.{NotUtf8, Refused}
 
 -- "at most 1,048,576 bytes"
 abbrev pub max_source : ℕ
@@ -47,13 +48,9 @@ open_of src base size table =
     (cond (not (well_formed src)) (open_refused NOT_UTF8 (some (bytes_before (chars src))) table)
     (begun_of (length (chars src)) base size table))
 
--- what each answer of opening comes to
-abbrev pub outcome_of : Opened → Outcome Begun
-outcome_of (Ready state chars) = gave (record { state = state; chars = chars })
-outcome_of (NotUtf8 place) = refused NOT_UTF8
-outcome_of (Refused number) = refused number
-
-abbrev pub place_of : Opened → Option ℕ
-place_of (Ready state chars) = none
-place_of (NotUtf8 place) = some place
-place_of (Refused number) = none
+-- what each answer of opening comes to, with the table as it is left
+abbrev pub opening_of : List ℕ → Result Opened NotOpened → Opening
+opening_of table (Ok opened) =
+    record { table = table; outcome = gave (record { state = opened.state; chars = opened.chars }); place = none }
+opening_of table (Err (NotUtf8 place)) = open_refused NOT_UTF8 (some place) table
+opening_of table (Err (Refused refusal)) = open_refused (refusal_number refusal) none table

@@ -1,1 +1,2 @@
+pub mod Gets
 pub mod ReadBack

@@ -12,14 +12,16 @@ pub fn put_token(t: Token, n: &mut [usize])
     if n.len() < Token::NUMBERS {
         return;
     }
-    n[0] = t.kind as usize;
-    n[1] = bit_of(t.inserted);
-    n[2] = t.position;
-    n[3] = t.code as usize;
-    n[4] = bit_of(t.text.area);
-    n[5] = t.text.start;
-    n[6] = t.text.end;
-    n[7] = bit_of(t.value.area);
-    n[8] = t.value.start;
-    n[9] = t.value.end;
+    n[..Token::NUMBERS].copy_from_slice(&[
+        t.kind as usize,
+        bit_of(t.inserted),
+        t.position,
+        t.code as usize,
+        bit_of(t.text.area),
+        t.text.start,
+        t.text.end,
+        bit_of(t.value.area),
+        t.value.start,
+        t.value.end,
+    ]);
 }

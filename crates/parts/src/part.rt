@@ -1,6 +1,8 @@
 // A text or a value as a part of the source or of the text area.
 ghost use Rattle.std.specs.Prelude.{◌≡◌};
-ghost use Rattle.parts.specs.Shown.{shown_in, shown_of};
+ghost use Rattle.parts.specs.Shown.{shown_as, shown_of};
+
+use refusal::Refusal;
 
 // The part of the text area, or of the source, that a text or a value is in.
 #[derive(Clone, Copy)]
@@ -10,30 +12,10 @@ pub struct Part {
     pub end: usize,
 }
 
-// A part of a buffer, and 0; or nothing, and the number of the refusal.
-fn part_of<'a>(buffer: &'a [u8], part: Part, refusal: &mut u8) -> &'a [u8]
-    ensures { record { bytes = result.now; refusal = refusal.new } ≡ shown_in buffer.now part }
+// The text or the value that a token shows, by its part.
+pub fn shown<'a>(src: &'a [u8], area: &'a [u8], part: Part) -> Result<&'a [u8], Refusal>
+    ensures { shown_as result ≡ shown_of src.now area.now part }
 {
-    let start = part.start;
-    let end = part.end;
-    if start <= end {
-        if end <= buffer.len() {
-            *refusal = 0;
-            return &buffer[start..end];
-        }
-    }
-    *refusal = refusal::DOES_NOT_FIT;
-    &buffer[..0]
-}
-
-// The text or the value that a token shows, by its part, and 0; or nothing, and the number of the
-// refusal.
-pub fn shown<'a>(src: &'a [u8], area: &'a [u8], part: Part, refusal: &mut u8) -> &'a [u8]
-    ensures { record { bytes = result.now; refusal = refusal.new } ≡ shown_of src.now area.now part }
-{
-    if part.area {
-        part_of(area, part, refusal)
-    } else {
-        part_of(src, part, refusal)
-    }
+    let buffer = if part.area { area } else { src };
+    buffer.get(part.start..part.end).ok_or(Refusal::DoesNotFit)
 }

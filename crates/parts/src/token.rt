@@ -1,8 +1,10 @@
 // A token, and its text and value as parts of the source or of the text area.
 ghost use Rattle.std.specs.Prelude.{◌≡◌};
+ghost use Rattle.parts.specs.Shown.{shown_as};
 ghost use Rattle.parts.specs.Text.{text_shown, value_shown};
 
 use crate::part::{Part, shown};
+use refusal::Refusal;
 
 #[derive(Clone, Copy)]
 pub struct Token {
@@ -24,17 +26,16 @@ impl Token {
 
 // Give these two the source that was scanned, and the area as the token's own scan left it.
 
-// The text of a token, and 0; or nothing, and the number of the refusal. A scan gives operators,
-// keywords and EOF an empty one.
-pub fn text<'a>(src: &'a [u8], area: &'a [u8], token: Token, refusal: &mut u8) -> &'a [u8]
-    ensures { record { bytes = result.now; refusal = refusal.new } ≡ text_shown src.now area.now token }
+// The text of a token. A scan gives operators, keywords and EOF an empty one.
+pub fn text<'a>(src: &'a [u8], area: &'a [u8], token: Token) -> Result<&'a [u8], Refusal>
+    ensures { shown_as result ≡ text_shown src.now area.now token }
 {
-    shown(src, area, token.text, refusal)
+    shown(src, area, token.text)
 }
 
-// The value of a STRING, likewise; a scan gives any other token an empty one.
-pub fn value<'a>(src: &'a [u8], area: &'a [u8], token: Token, refusal: &mut u8) -> &'a [u8]
-    ensures { record { bytes = result.now; refusal = refusal.new } ≡ value_shown src.now area.now token }
+// The value of a STRING; a scan gives any other token an empty one.
+pub fn value<'a>(src: &'a [u8], area: &'a [u8], token: Token) -> Result<&'a [u8], Refusal>
+    ensures { shown_as result ≡ value_shown src.now area.now token }
 {
-    shown(src, area, token.value, refusal)
+    shown(src, area, token.value)
 }

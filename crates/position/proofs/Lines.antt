@@ -1,32 +1,19 @@
 -- Laws of the line and the column of an offset.
 use Prim.Native.Nat.{ℕ, zero, suc, ◌+◌, ◌-◌, ◌≤◌, ◌<◌}
+use Rattle.std.specs.Prelude.{Some, None, unwrap_or}
+use Rattle.std.specs.List.{position_or_len}
 use mathlib.Core.Path.{◌≡◌, refl, ◌∙◌}
-use mathlib.Core.Bool.{true, false}
+use mathlib.Core.Bool.{true, false, cond, not}
 use mathlib.Core.List.{List, [], ◌∷◌, ◌++◌}
 use mathlib.Core.Logic.{⊎_elim}
 use native.Mathlib.Nat.{le_of_suc-le-suc, not-suc-le-zero}
 use native.Mathlib.Omega.{arith}
 use lib.Dec.{ltb}
-use lib.ListN.{length, drop, get_or, drop_of_length-le, length-append, get_or-append}
+use lib.ListN.{length, get_or, length-append, get_or-append}
 use lib.Seq.{get_or-append_seam}
-use borrow.Author.Tests.{lt-ltb, le-ltb, ltb-true, ltb-false}
+use borrow.Author.Tests.{le-ltb, ltb-true, ltb-false}
 use Rattle.basics.proofs.Choice.{cond_ind, either}
-use Rattle.basics.proofs.Lists.{drop_next}
 use Rattle.position.specs.Lines.{line_of, line_start, start_of, StrictlyRising}
-
--- one start more, from the place p on
-module _ (s : List ℕ) (o p : ℕ) where
-  pub line_over : length s ≤ p → line_of (drop p s) o ≡ 0
-  unfolding line_of
-  line_over h = rw (drop_of_length-le s h)
-
-  pub line_stop : p < length s → o < get_or s p 0 → line_of (drop p s) o ≡ 0
-  unfolding line_of
-  line_stop h g = rw (drop_next s p 0 h, lt-ltb _ _ g)
-
-  pub line_next : p < length s → get_or s p 0 ≤ o → line_of (drop p s) o ≡ suc (line_of (drop (p + 1) s) o)
-  unfolding line_of
-  line_next h g = rw (drop_next s p 0 h, le-ltb _ _ g, line_of)
 
 -- ---- bounds
 
@@ -34,6 +21,23 @@ pub line_count : (s : List ℕ) (o : ℕ) → line_of s o ≤ length s
 unfolding line_of
 line_count [] o = omega arith
 line_count (x ∷ s) o = cond_ind (λ n. n ≤ suc (length s)) (ltb o x) 0 (suc (line_of s o)) (λ e. omega arith) (λ e. omega (arith, line_count s o))
+
+-- the line of an offset is where a search for a start above the offset ends
+line_position : (s : List ℕ) (o : ℕ) → position_or_len (λ x. ltb o x) s ≡ line_of s o
+unfolding line_of
+line_position [] o = refl
+line_position (x ∷ s) o =
+    let e = line_position s o in
+    cond_ind (λ n. cond (not (ltb o x)) (1 + position_or_len (λ x. ltb o x) s) 0 ≡ n) (ltb o x) 0 (suc (line_of s o)) (λ t. rw t refl) (λ t. rw (t, e) (omega arith))
+
+pub line_search : (s : List ℕ) (o : ℕ)
+    → let n = position_or_len (λ x. ltb o x) s in
+    unwrap_or (cond (ltb n (length s)) (Some n) None) (length s) ≡ line_of s o
+line_search s o =
+    rw (line_position s o)
+    (⊎_elim (λ (e : ltb (line_of s o) (length s) ≡ true). rw e)
+    (λ (e : ltb (line_of s o) (length s) ≡ false). rw e (omega (arith, ltb-false (line_of s o) (length s) e, line_count s o)))
+    (either (ltb (line_of s o) (length s))))
 
 -- each start before the line's end is at most the offset
 pub before_line : (s : List ℕ) (o k : ℕ) → k < line_of s o → get_or s k 0 ≤ o

@@ -1,5 +1,6 @@
 -- What each query comes to, case by case.
 use Prim.Native.Nat.{ℕ, ◌+◌, ◌-◌, ◌≤◌, ◌<◌}
+use Rattle.std.specs.Prelude.{Option, Some, None, Ok, Err, SomeIff, ok_or}
 use mathlib.Core.Path.{◌≡◌, sym, ◌∙◌}
 use mathlib.Core.Bool.{true, false}
 use mathlib.Core.List.{List}
@@ -7,6 +8,8 @@ use native.Mathlib.Omega.{arith}
 use lib.Seq.{get_or-take}
 use borrow.Author.Tests.{le-leb, lt-leb}
 use Rattle.basics.proofs.Choice.{in_between, below_it, above_it}
+use Rattle.refusal.specs.declared.Refusal.{Refusal}
+use Rattle.refusal.specs.declared.Refusal.TheVariants.{NoPosition}
 use Rattle.refusal.specs.Outcome.{refused, gave}
 use Rattle.position.specs.declared.File.{File}
 use Rattle.position.specs.Lines.{line_of, line_start, start_of, column_of, position_at}
@@ -74,6 +77,16 @@ module _ (f : File) (table : List ℕ) (line o : ℕ) where
           pub start_gave : line_start table line ≤ o → line_start_of f table line o ≡ gave (f.base + line_start table line)
           unfolding line_start_of
           start_gave g = rw (e, le-leb _ _ h, in_between 1 line f.lines some held, le-leb _ _ g)
+
+-- a position less a base, where it is not below the base
+module _ (base p : ℕ) where
+  pub less_base : (o : Option ℕ) {x : ℕ} → SomeIff o (base ≤ p) (p - base) → ok_or o NoPosition ≡ Ok x → (base ≤ p) × (x ≡ p - base)
+  less_base None s e = absurd (grind arith)
+  less_base (Some y) {x = x} s e = let z : y ≡ x = grind arith in (s.0, sym z ∙ s.1)
+
+  pub below_base : (o : Option ℕ) {refusal : Refusal} → SomeIff o (base ≤ p) (p - base) → ok_or o NoPosition ≡ Err refusal → (p < base) × (refusal ≡ NoPosition)
+  below_base None s e = (grind (arith, s), grind arith)
+  below_base (Some y) s e = absurd (grind arith)
 
 -- a line that the table holds, which starts at or before the offset
 pub record Found (f : File) (table : List ℕ) (o line : ℕ) : Type 0 where

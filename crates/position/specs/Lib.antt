@@ -1,5 +1,4 @@
 pub mod Lines
 pub mod Place
-pub mod Answers
 pub mod Queries
 pub mod Adding

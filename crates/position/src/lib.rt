@@ -4,9 +4,12 @@
 ghost use Rattle.std.specs.Prelude.{◌≡◌};
 ghost use Rattle.position.specs.Lines.{line_of};
 ghost use Rattle.position.specs.Place.{in_range, fitting};
-ghost use Rattle.position.specs.Answers.{answer_outcome, located};
+ghost use Rattle.refusal.specs.Outcome.{outcome_of};
+ghost use Rattle.refusal.specs.Steps.{where_fits};
 ghost use Rattle.position.specs.Queries.{pos_of, position_of, line_start_of};
 ghost use Rattle.position.specs.Adding.{add_line};
+
+use refusal::Refusal;
 
 // A text's place among positions, and how many line starts its table holds.
 #[derive(Clone, Copy)]
@@ -31,32 +34,14 @@ pub struct Line {
     pub start: usize,
 }
 
-// What a call gives, or the number of the refusal.
-#[derive(Clone, Copy)]
-pub enum Answer {
-    Gave(usize),
-    Refused(u8),
-}
-
-// Where a position is, or the number of the refusal.
-#[derive(Clone, Copy)]
-pub enum Located {
-    At(Position),
-    Refused(u8),
-}
-
 // The index of the first start above the offset, else the count.
 fn line_of(starts: &[usize], offset: usize) -> usize
     ensures { result ≡ line_of starts.now offset }
 {
-    let mut line: usize = 0;
-    while line < starts.len() {
-        if offset < starts[line] {
-            return line;
-        }
-        line += 1;
-    }
-    line
+    starts
+        .iter()
+        .position(|start| offset < *start)
+        .unwrap_or(starts.len())
 }
 
 impl File {
@@ -67,60 +52,52 @@ impl File {
     pub fn in_range(self) -> bool
         ensures { result ≡ in_range self }
     {
-        let base = self.base;
-        base <= File::MAX_POSITION && self.size <= File::MAX_POSITION - base
+        self.base <= File::MAX_POSITION && self.size <= File::MAX_POSITION - self.base
     }
 
     // The file and its table go together.
     pub fn fits(self, table: &[usize]) -> bool
         ensures { result ≡ fitting self table.now }
     {
-        let lines = self.lines;
-        if !self.in_range() {
-            return false;
+        self.in_range() && 0 < self.lines && self.lines <= table.len() && table[0] == 0
+    }
+
+    // Refuses a table with which the file does not go together.
+    fn checked(self, table: &[usize]) -> Result<(), Refusal>
+        ensures { result ≡ where_fits (fitting self table.now) tt }
+    {
+        if self.fits(table) {
+            Ok(())
+        } else {
+            Err(Refusal::DoesNotFit)
         }
-        if lines == 0 {
-            return false;
-        }
-        if lines > table.len() {
-            return false;
-        }
-        table[0] == 0
     }
 
     // The position of an offset.
-    pub fn pos(self, offset: usize) -> Answer
-        ensures { answer_outcome result ≡ pos_of self offset }
+    pub fn pos(self, offset: usize) -> Result<usize, Refusal>
+        ensures { outcome_of result ≡ pos_of self offset }
     {
         if !self.in_range() {
-            return Answer::Refused(refusal::DOES_NOT_FIT);
+            return Err(Refusal::DoesNotFit);
         }
         if offset > self.size {
-            return Answer::Refused(refusal::NO_POSITION);
+            return Err(Refusal::NoPosition);
         }
-        let position = self.base + offset;
-        Answer::Gave(position)
+        Ok(self.base + offset)
     }
 
     // The offset, line and column of a position.
-    pub fn position(self, table: &[usize], p: usize) -> Located
-        ensures { located result ≡ position_of self table.now p }
+    pub fn position(self, table: &[usize], p: usize) -> Result<Position, Refusal>
+        ensures { outcome_of result ≡ position_of self table.now p }
     {
-        let base = self.base;
-        let lines = self.lines;
-        if !self.fits(table) {
-            return Located::Refused(refusal::DOES_NOT_FIT);
-        }
-        if p < base {
-            return Located::Refused(refusal::NO_POSITION);
-        }
-        let offset = p - base;
+        self.checked(table)?;
+        let offset = p.checked_sub(self.base).ok_or(Refusal::NoPosition)?;
         if offset > self.size {
-            return Located::Refused(refusal::NO_POSITION);
+            return Err(Refusal::NoPosition);
         }
-        let line = line_of(&table[..lines], offset);
+        let line = line_of(&table[..self.lines], offset);
         let column = offset - table[line - 1] + 1;
-        Located::At(Position {
+        Ok(Position {
             offset,
             line,
             column,
@@ -128,49 +105,37 @@ impl File {
     }
 
     // The position at which a line starts, in a text that has been read up to the offset.
-    pub fn line_start(self, table: &[usize], line: usize, offset: usize) -> Answer
-        ensures { answer_outcome result ≡ line_start_of self table.now line offset }
+    pub fn line_start(self, table: &[usize], line: usize, offset: usize) -> Result<usize, Refusal>
+        ensures { outcome_of result ≡ line_start_of self table.now line offset }
     {
-        if !self.fits(table) {
-            return Answer::Refused(refusal::DOES_NOT_FIT);
-        }
+        self.checked(table)?;
         if offset > self.size {
-            return Answer::Refused(refusal::DOES_NOT_FIT);
+            return Err(Refusal::DoesNotFit);
         }
-        if line == 0 {
-            return Answer::Refused(refusal::NO_LINE);
-        }
-        if line > self.lines {
-            return Answer::Refused(refusal::NO_LINE);
+        if line == 0 || line > self.lines {
+            return Err(Refusal::NoLine);
         }
         let start = table[line - 1];
         if start > offset {
-            return Answer::Refused(refusal::DOES_NOT_FIT);
+            return Err(Refusal::DoesNotFit);
         }
-        let position = self.base + start;
-        Answer::Gave(position)
+        Ok(self.base + start)
     }
 
     // The number of lines after a line start was read: it is recorded if it is above the last one
     // and below the size.
-    pub fn add_line(self, table: &mut [usize], offset: usize) -> Answer
-        ensures { record { table = table.new; outcome = answer_outcome result } ≡ add_line self table.old offset }
+    pub fn add_line(self, table: &mut [usize], offset: usize) -> Result<usize, Refusal>
+        ensures { record { table = table.new; outcome = outcome_of result } ≡ add_line self table.old offset }
     {
         let lines = self.lines;
-        if !self.fits(table) {
-            return Answer::Refused(refusal::DOES_NOT_FIT);
-        }
-        if offset <= table[lines - 1] {
-            return Answer::Gave(lines);
-        }
-        if offset >= self.size {
-            return Answer::Gave(lines);
+        self.checked(table)?;
+        if offset <= table[lines - 1] || offset >= self.size {
+            return Ok(lines);
         }
         if lines == table.len() {
-            return Answer::Refused(refusal::TABLE_FULL);
+            return Err(Refusal::TableFull);
         }
         table[lines] = offset;
-        let count = lines + 1;
-        Answer::Gave(count)
+        Ok(lines + 1)
     }
 }

@@ -3,92 +3,72 @@
 
 ghost use Rattle.std.specs.Prelude.{◌≡◌, length};
 ghost use Rattle.utf8.specs.Chars.{chars};
+ghost use Rattle.kinds.specs.Number.{kind_number};
+ghost use Rattle.refusal.specs.Outcome.{outcome_of};
 ghost use Rattle.numbers.specs.Number.{number};
-ghost use Rattle.quantity.specs.Pair.{answer_outcome};
 ghost use Rattle.quantity_query.specs.Given.{is_real, is_all, most_bytes, is_given};
 ghost use Rattle.quantity_query.specs.Number.{number_behind, number_in};
 
+use kinds::Kind;
+use numbers::Spelling;
 use parts::Part;
 use position::File;
-use quantity::Answer;
+use quantity::Quantity;
+use refusal::Refusal;
 
-fn is_real(kind: u8) -> bool
-    ensures { result ≡ is_real kind }
+#[tactic(auto, using(kinds::proofs::Tags::same_kinds))]
+fn is_real(kind: Kind) -> bool
+    ensures { result ≡ is_real (kind_number kind) }
 {
-    if kind == kinds::INT {
-        return true;
-    }
-    kind == kinds::FLOAT
+    kind == Kind::Int || kind == Kind::Float
 }
 
 // Is the number at the start of a text the whole text, of that kind, and written as it was read?
-fn is_all(text: &[u8], kind: u8) -> bool
-    ensures { result ≡ is_all kind (length text.now) (number (chars text.now)) }
+#[tactic(auto, using(kinds::proofs::Tags::same_kinds))]
+fn is_all(text: &[u8], kind: Kind) -> bool
+    ensures { result ≡ is_all (kind_number kind) (length text.now) (number (chars text.now)) }
 {
     let n = numbers::scan_number(text, 0);
-    let end = n.end;
-    let spelling = n.spelling;
-    if n.kind != kind {
-        return false;
-    }
-    if end != text.len() {
-        return false;
-    }
-    match spelling {
-        numbers::Spelling::AsRead => true,
-        numbers::Spelling::LowerPrefix => false,
-        numbers::Spelling::OctalPrefix => false,
-        numbers::Spelling::LowerExponent => false,
-    }
+    n.kind == kind && n.end == text.len() && matches!(n.spelling, Spelling::AsRead)
 }
 
 // How many bytes a text can have.
 fn most_bytes(text: &[u8]) -> usize
     ensures { result ≡ most_bytes text.now }
 {
-    if utf8::byte(text, 0) != b'0' {
-        return File::MAX_POSITION;
+    if text.starts_with(b"0o") {
+        return File::MAX_POSITION + 1;
     }
-    if utf8::byte(text, 1) != b'o' {
-        return File::MAX_POSITION;
-    }
-    File::MAX_POSITION + 1
+    File::MAX_POSITION
 }
 
 // Does a scan give a token of that kind such a text?
-fn is_given(text: &[u8], kind: u8) -> bool
-    ensures { result ≡ is_given kind text.now }
+#[tactic(auto, unfolding(crate::specs::Given::is_given))]
+fn is_given(text: &[u8], kind: Kind) -> bool
+    ensures { result ≡ is_given (kind_number kind) text.now }
 {
-    if !is_real(kind) {
-        return false;
-    }
-    if !numbers::starts_number(utf8::byte(text, 0), utf8::byte(text, 1)) {
-        return false;
-    }
-    if !is_all(text, kind) {
-        return false;
-    }
-    text.len() <= most_bytes(text)
+    is_real(kind)
+        && numbers::starts_number(utf8::byte(text, 0), utf8::byte(text, 1))
+        && is_all(text, kind)
+        && text.len() <= most_bytes(text)
 }
 
-fn number_behind(text: &[u8], kind: u8) -> Answer
-    ensures { answer_outcome result ≡ number_behind kind text.now }
+#[tactic(auto, unfolding(crate::specs::Number::number_behind))]
+fn number_behind(text: &[u8], kind: u8) -> Result<Quantity, Refusal>
+    ensures { outcome_of result ≡ number_behind kind text.now }
 {
-    if is_given(text, kind) {
-        return quantity::quantity_of(text);
+    match Kind::try_from(kind) {
+        Ok(kind) if is_given(text, kind) => quantity::quantity_of(text),
+        _ => Err(Refusal::NoNumber),
     }
-    Answer::Refused(refusal::NO_NUMBER)
 }
 
-// The number behind a token, by its kind and the part that its text is. Give the source that was
-// scanned, and the area as the token's own scan left it.
-pub fn number<'a>(src: &'a [u8], area: &'a [u8], kind: u8, text: Part) -> Answer
-    ensures { answer_outcome result ≡ number_in src.now area.now kind text }
+// The number behind a token, by its kind, which may be any number, and the part that its text is.
+// Give the source that was scanned, and the area as the token's own scan left it.
+#[tactic(auto, unfolding(crate::specs::Number::number_in))]
+pub fn number<'a>(src: &'a [u8], area: &'a [u8], kind: u8, text: Part) -> Result<Quantity, Refusal>
+    ensures { outcome_of result ≡ number_in src.now area.now kind text }
 {
-    let mut refusal = 0;
-    let shown = parts::shown(src, area, text, &mut refusal);
-    if refusal != 0 {
-        return Answer::Refused(refusal);
-    }
-    number_behind(shown, kind)
+    let text = parts::shown(src, area, text)?;
+    number_behind(text, kind)
 }

@@ -16,11 +16,11 @@ use Rattle.scanner.specs.Scan.{written, to_area}
 
 -- text and value by the way of making them
 module _ (src : List ℕ) (start : ℕ) (x : Lexed) where
-  pub said_text : {t : Text} → x.text ≡ t → text_of t (take x.chars (chars (drop start src))) (take (x.end - start) (drop start src)) ≡ (said src start x).lexeme.text
+  pub said_text : {t : Text} → x.text.making ≡ t → text_of t (take x.chars (chars (drop start src))) (take (x.end - start) (drop start src)) ≡ (said src start x).lexeme.text
   unfolding said
   said_text e = rw e
 
-  pub said_value : {v : Value} → x.value ≡ v → value_of v (chars (drop (start + 1) src)) ≡ (said src start x).lexeme.value
+  pub said_value : {v : Value} → x.value.making ≡ v → value_of v (chars (drop (start + 1) src)) ≡ (said src start x).lexeme.value
   unfolding said
   said_value e = rw e
 
@@ -54,14 +54,14 @@ both area one two e n room =
     (ap (λ k. sets (sets area 0 one) k two) (sym (zero-add (length one))) ∙ sym (sets_append area 0 one two) ∙ sets_written area (one ++ two) room)
 
 -- and then the value
-module _ (src : List ℕ) (start : ℕ) (x : Lexed) (area : List ℕ) {mid : List ℕ} {to : ℕ} (w : TextWritten area (said src start x).lexeme.text x.text_differs mid to)
+module _ (src : List ℕ) (start : ℕ) (x : Lexed) (area : List ℕ) {mid : List ℕ} {to : ℕ} (w : TextWritten area (said src start x).lexeme.text x.text.differs mid to)
     (room : length (to_area (said src start x)) ≤ length area) where
-  all : sets mid to (cond x.value_differs (said src start x).lexeme.value []) ≡ written (to_area (said src start x)) area
+  all : sets mid to (cond x.value.differs (said src start x).lexeme.value []) ≡ written (to_area (said src start x)) area
   unfolding said
-  all = both area (cond x.text_differs (said src start x).lexeme.text []) (cond x.value_differs (said src start x).lexeme.value []) w.0 w.1 room
+  all = both area (cond x.text.differs (said src start x).lexeme.text []) (cond x.value.differs (said src start x).lexeme.value []) w.0 w.1 room
 
-  pub value_written : {after : List ℕ} → x.value_differs ≡ true → after ≡ sets mid to (said src start x).lexeme.value → after ≡ written (to_area (said src start x)) area
+  pub value_written : {after : List ℕ} → x.value.differs ≡ true → after ≡ sets mid to (said src start x).lexeme.value → after ≡ written (to_area (said src start x)) area
   value_written d e = e ∙ ap (λ v. sets mid to (cond v (said src start x).lexeme.value [])) (sym d) ∙ all
 
-  pub value_none : x.value_differs ≡ false → mid ≡ written (to_area (said src start x)) area
+  pub value_none : x.value.differs ≡ false → mid ≡ written (to_area (said src start x)) area
   value_none d = ap (λ v. sets mid to (cond v (said src start x).lexeme.value [])) (sym d) ∙ all

@@ -16,22 +16,22 @@ use Rattle.position.proofs.Place.{Fit, fit, last_start}
 use Rattle.lines.proofs.Reading.{read_new}
 use Rattle.lines.proofs.Kept.{read_last}
 use Rattle.lines.proofs.Current.{sets_line}
+use Rattle.errors.specs.Faults.{error_number}
 use Rattle.errors.specs.Layout.{width, numbers}
 use Rattle.errors.specs.Errors.{room_of}
 use Rattle.reading.specs.Reading.{error_at}
 use Rattle.lexer.specs.declared.lexed.Lexed.{Lexed}
 use Rattle.lexer.specs.Placed.{said}
 use Rattle.state.specs.declared.state.State.{State}
-use Rattle.scanner.specs.declared.answer.Scanned.{Scanned}
 use Rattle.state.specs.Fits.{file_of}
-use Rattle.scanner.specs.Scan.{written, to_area, ScanLeft}
+use Rattle.scanner.specs.Scan.{Answer, written, to_area, ScanLeft}
 use Rattle.scanner.specs.Steps.{state_by, token_by, position_by, starts_from, is_plain, Ready, BuffersLeft, left_of, commit_of}
 
 -- what a plain token has
-pub plain : (x : Lexed) → is_plain x ≡ true → (eqb x.error 0 ≡ true) × (x.text_differs ≡ false) × (x.value_differs ≡ false)
+pub plain : (x : Lexed) → is_plain x ≡ true → (eqb (error_number x.error) 0 ≡ true) × (x.text.differs ≡ false) × (x.value.differs ≡ false)
 plain x p =
-    let a = and_split (eqb x.error 0 && not x.text_differs) (not x.value_differs) p in
-    let b = and_split (eqb x.error 0) (not x.text_differs) a.0 in
+    let a = and_split (eqb (error_number x.error) 0 && not x.text.differs) (not x.value.differs) p in
+    let b = and_split (eqb (error_number x.error) 0) (not x.text.differs) a.0 in
     (b.0, not-true _ b.1, not-true _ a.1)
 
 module _ (src : List ℕ) (s : State) (start : ℕ) (x : Lexed) (read starts : ℕ) (table list area : List ℕ) where
@@ -62,20 +62,20 @@ module _ (src : List ℕ) (s : State) (start : ℕ) (x : Lexed) (read starts : �
 
     -- the error may be recorded
     pub error_ready : {a : State} {t : List ℕ} → t ≡ recorded → a ≡ after t
-        → (a.line.start ≤ a.offset) × (a.offset + 1 < 2 ^ 64) × (s.errors + cond (eqb x.error 0) 0 1 ≤ room_of list)
+        → (a.line.start ≤ a.offset) × (a.offset + 1 < 2 ^ 64) × (s.errors + cond (eqb (error_number x.error) 0) 0 1 ≤ room_of list)
     error_ready f e = rw (e, f) (last_below, omega (arith, file.top, k.sized), k.list_room)
 
     pub position_fits : position_by s start < 2 ^ 64
     position_fits = omega (arith, file.top, k.sized, k.blanks)
 
   pub left_is : {a : State} {t l b : List ℕ} → t ≡ recorded → a ≡ after t
-      → l ≡ cond (eqb x.error 0) list (sets list (s.errors * width) (numbers (error_at x.error a.offset a.line)))
+      → l ≡ cond (eqb (error_number x.error) 0) list (sets list (s.errors * width) (numbers (error_at (error_number x.error) a.offset a.line)))
       → b ≡ written (to_area (said src start x)) area
       → ◌≡◌ {A = BuffersLeft} (record { table = t; list = l; area = b }) (left_of src s start x read starts table list area)
   unfolding left_of
   left_is f e g h = rw (g, h, e, f)
 
-  pub commit_is : {l : BuffersLeft} {a : Scanned} → l ≡ left_of src s start x read starts table list area
+  pub commit_is : {l : BuffersLeft} {a : Answer} → l ≡ left_of src s start x read starts table list area
       → a ≡ record { refusal = 0; state = after l.table; token = token_by x start (position_by s start) }
       → ◌≡◌ {A = ScanLeft} (record { table = l.table; list = l.list; area = l.area; answer = a }) (commit_of src s start x read starts table list area)
   unfolding commit_of
@@ -91,7 +91,7 @@ module _ (src : List ℕ) (s : State) (start : ℕ) (x : Lexed) (read starts : �
   unfolding left_of
   plain_left p f = rw (f, nothing p, (plain x p).0)
 
-  pub commit_plain_is : {t : List ℕ} {a : Scanned} → is_plain x ≡ true → t ≡ recorded
+  pub commit_plain_is : {t : List ℕ} {a : Answer} → is_plain x ≡ true → t ≡ recorded
       → a ≡ record { refusal = 0; state = after t; token = token_by x start (position_by s start) }
       → ◌≡◌ {A = ScanLeft} (record { table = t; list = list; area = area; answer = a }) (commit_of src s start x read starts table list area)
   commit_plain_is p f g = commit_is (plain_left p f) g

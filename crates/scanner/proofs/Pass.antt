@@ -212,18 +212,18 @@ module _ (src : List ℕ) (s : State) (start : ℕ) where
           let end : x.end ≡ start + widths (take token.len (chars (drop start src))) = ap (λ (p : Placed). p.end) e in
           omega (arith, end, length-take (widths (take token.len (chars (drop start src)))) (drop start src))
 
-      text_kept : x.text_differs ≡ false → start + text_len x ≤ x.end
+      text_kept : x.text.differs ≡ false → start + text_len x ≤ x.end
       unfolding said placed
       text_kept f =
           let l : text_len x ≡ length token.text = ap (λ (p : Placed). p.text_length) e in
-          let d : x.text_differs ≡ text_differs_in token.text bytes = ap (λ (p : Placed). p.text_differs) e in
+          let d : x.text.differs ≡ text_differs_in token.text bytes = ap (λ (p : Placed). p.text_differs) e in
           rw l (omega (arith, text_within token.text bytes (sym d ∙ f), bytes_end))
 
-      value_kept : x.value_differs ≡ false → value_len x ≤ x.end - start - 1
+      value_kept : x.value.differs ≡ false → value_len x ≤ x.end - start - 1
       unfolding said placed
       value_kept f =
           let l : value_len x ≡ length token.value = ap (λ (p : Placed). p.value_length) e in
-          let d : x.value_differs ≡ not (same token.value (value_read token bytes)) = ap (λ (p : Placed). p.value_differs) e in
+          let d : x.value.differs ≡ not (same token.value (value_read token bytes)) = ap (λ (p : Placed). p.value_differs) e in
           rw l (omega (arith, value_within token bytes (sym d ∙ f), bytes_end))
 
       -- ---- what the code counts fits its numbers
@@ -239,4 +239,4 @@ module _ (src : List ℕ) (s : State) (start : ℕ) where
 
         pub lengths_fit : (area : ℕ) → area < 2 ^ 63 → to_write x ≤ area → start + 1 + text_len x + value_len x < 2 ^ 64
         lengths_fit area small w =
-            sum_fits x.text_differs x.value_differs start x.end (text_len x) (value_len x) (length src) area text_kept value_kept w end_behind (end_fits h) short small
+            sum_fits x.text.differs x.value.differs start x.end (text_len x) (value_len x) (length src) area text_kept value_kept w end_behind (end_fits h) short small

@@ -23,6 +23,7 @@ use Rattle.lines.specs.Starts.{read_lines}
 use Rattle.lines.specs.Current.{read_line}
 use Rattle.lines.proofs.Reading.{read_new}
 use Rattle.lines.proofs.Current.{last_line, take_line, sets_line, read_last_line}
+use Rattle.errors.specs.Faults.{error_number}
 use Rattle.blanks.specs.Blank.{skip}
 use Rattle.lexer.specs.declared.lexed.Lexed.{Lexed}
 use Rattle.lexer.specs.Lexeme.{Lexeme, raise}
@@ -142,7 +143,7 @@ module _ (src : List ℕ) (s : State) (table list area : List ℕ) (k : Held s s
         offset = s.offset + taken';
         lines = take s.lines table ++ new;
         line = last_line (take s.lines table ++ new);
-        errors = errors_of s.errors list ++ new_errors x.error (s.offset + taken') (last_line (take s.lines table ++ new));
+        errors = errors_of s.errors list ++ new_errors (error_number x.error) (s.offset + taken') (last_line (take s.lines table ++ new));
         mark = x.mark;
       }
 
@@ -156,7 +157,7 @@ module _ (src : List ℕ) (s : State) (table list area : List ℕ) (k : Held s s
   line_read : read_line s.size s.offset (take taken' (left src s start)) s.line ≡ last_line (take s.lines table ++ new)
   line_read = held_read s src table list k (take taken' (left src s start)) ∙ ap last_line lines_read
 
-  token_error : (token src s start).error ≡ x.error
+  token_error : (token src s start).error ≡ error_number x.error
   unfolding said placed
   token_error = sym (ap (λ (q : Placed). q.lexeme.error) e)
 
@@ -224,8 +225,8 @@ module _ (src : List ℕ) (s : State) (table list area : List ℕ) (k : Held s s
   lines_length =
       rw (length-append (take s.lines table) new, length-take-le s.lines table (fit (file_of s) table k.fitted).held)
 
-  errors_counted : length u.errors ≡ s.errors + cond (eqb x.error 0) 0 1
-  errors_counted = errors_after x.error (s.offset + taken') s.errors list (last_line (take s.lines table ++ new))
+  errors_counted : length u.errors ≡ s.errors + cond (eqb (error_number x.error) 0) 0 1
+  errors_counted = errors_after (error_number x.error) (s.offset + taken') s.errors list (last_line (take s.lines table ++ new))
 
   module _ (holds : fits s src table list ≡ true) where
     refusal_is : refusal_of (fits s src table list) s.size u (length table) (room_of list) (length (to_area p)) (length area)
@@ -263,9 +264,9 @@ module _ (src : List ℕ) (s : State) (table list area : List ℕ) (k : Held s s
         state_is : state_of s u ≡ state_by x (s.offset + taken') (length new) s (sets table s.lines new)
         state_is = λ i. advance s x.end (s.offset + taken') x.mark (lines_length i) (errors_counted i) (line_is i)
 
-        list_is : with_error x.error s.errors list u
-            ≡ cond (eqb x.error 0) list (sets list (s.errors * width) (numbers (error_at x.error (s.offset + taken') (line_in (sets table s.lines new) (s.lines + length new)))))
-        list_is = ap (λ (l : Line). cond (eqb x.error 0) list (sets list (s.errors * width) (numbers (error_at x.error (s.offset + taken') l)))) line_is
+        list_is : with_error (error_number x.error) s.errors list u
+            ≡ cond (eqb (error_number x.error) 0) list (sets list (s.errors * width) (numbers (error_at (error_number x.error) (s.offset + taken') (line_in (sets table s.lines new) (s.lines + length new)))))
+        list_is = ap (λ (l : Line). cond (eqb (error_number x.error) 0) list (sets list (s.errors * width) (numbers (error_at (error_number x.error) (s.offset + taken') l)))) line_is
 
         gave_is : gave_by s p (token_of s.base start r p) u table list area ≡ commit_of src s start x taken' (length new) table list area
         unfolding commit_of left_of said

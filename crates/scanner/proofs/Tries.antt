@@ -1,7 +1,8 @@
 -- A token that the lexer read after the blanks and that is tried at once: what the numbers of the code hold, and that what it leaves is what a scan leaves.
 use Prim.Native.Nat.{ℕ, ◌+◌, ◌-◌, ◌≤◌, ◌<◌, ◌^◌}
-use mathlib.Core.Path.{◌≡◌, refl, sym, ap, ◌∙◌}
-use mathlib.Core.Bool.{true, true≢false, false≢true}
+use mathlib.Core.Path.{◌≡◌, sym, ap, ◌∙◌}
+use mathlib.Core.Bool.{true}
+use Rattle.std.specs.Prelude.{Some}
 use mathlib.Core.List.{List, [], ◌++◌}
 use native.Mathlib.Omega.{arith}
 use native.Mathlib.Nat.{add-zero}
@@ -15,24 +16,21 @@ use Rattle.utf8.specs.Count.{is_lf}
 use Rattle.utf8.proofs.Count.{count_fits}
 use Rattle.position.proofs.Place.{fit}
 use Rattle.errors.specs.Errors.{room_of}
+use Rattle.errors.specs.Faults.{error_number}
 use Rattle.blanks.specs.declared.Skipped.{Skipped}
 use Rattle.blanks.specs.Blank.{skip}
 use Rattle.lexer.specs.declared.lexed.Lexed.{Lexed}
 use Rattle.state.specs.declared.state.State.{State}
 use Rattle.state.specs.Fits.{file_of}
-use Rattle.scanner.specs.declared.quick.Tried.{Tried}
+use Rattle.scanner.specs.declared.answer.Scanned.{Scanned}
 use Rattle.scanner.specs.Steps.{to_write, refusal_by, is_plain, starts_from, position_by, Known}
-use Rattle.scanner.specs.Quick.{not_done, ends_in_feed, start_after, is_quick, PlainReady, QuickReady, plain_token, quick_token, Tries}
+use Rattle.scanner.specs.Quick.{ends_in_feed, start_after, is_quick, PlainReady, QuickReady, plain_token, quick_token, Tries}
 use Rattle.scanner.proofs.Pass as pass
 use Rattle.scanner.proofs.Refusals.{refusal_none, list_none}
 use Rattle.scanner.proofs.Committed.{plain, commit_plain_is}
 use Rattle.scanner.proofs.Scans.{Held, held, scan_gave}
 use Rattle.scanner.proofs.LineStarts.{none_left}
 use Rattle.scanner.proofs.Ends.{blanks_starts, starts_parted}
-
--- what is not done
-pub tries_none : (src : List ℕ) (s : State) (table list : List ℕ) {r : Tried} → r ≡ not_done s → Tries src s table list r table
-tries_none src s table list {r} e = (λ _. refl, λ d. absurd (false≢true (sym (ap (λ (t : Tried). t.done) e) ∙ d)))
 
 module _ (src : List ℕ) (s : State) (table list : List ℕ) (b : Skipped) (x : Lexed) (n : ℕ) (k : Known src s table list b x n) where
   kept : Held s src table list
@@ -102,18 +100,15 @@ module _ (src : List ℕ) (s : State) (table list : List ℕ) (b : Skipped) (x :
       not_refused area =
           sym
           (refusal_none x (s.offset + read) (b.lfs + x.lfs) s (length table) (room_of list) (length area) (omega arith) lines_fit g
-          (list_none x.error s.errors (room_of list) (eqb-true _ _ (plain x p).0) kept.errors)
+          (list_none (error_number x.error) s.errors (room_of list) (eqb-true _ _ (plain x p).0) kept.errors)
           (sym (le-leb (to_write x) (length area) (omega (arith, nothing)))))
 
       -- and that has no line feed but perhaps its last byte
-      given : ends_in_feed src x ≡ true → {after : List ℕ} {r : Tried} → after ≡ sets table s.lines (starts_from src s (b.end - s.place) ++ start_after x (s.offset + read))
-          → r ≡ quick_token s b x (s.offset + read) after → Tries src s table list r after
-      given f {after} {r} w e = (
-        λ d. absurd (true≢false (sym (ap (λ (y : Tried). y.done) e) ∙ d)),
-        λ _ area.
-            scan_gave src s table list area kept b.end at x k.reads.token k.holds (b.lfs + x.lfs) counted (not_refused area)
-            ∙ sym (commit_plain_is src s b.end x read (b.lfs + x.lfs) table list area p written (rw (e, (plain x p).0, add-zero))),
-      )
+      given : ends_in_feed src x ≡ true → {after : List ℕ} {r : Scanned} → after ≡ sets table s.lines (starts_from src s (b.end - s.place) ++ start_after x (s.offset + read))
+          → r ≡ quick_token s b x (s.offset + read) after → Tries src s table list (Some r) after
+      given f {after} {r} w e area =
+          scan_gave src s table list area kept b.end at x k.reads.token k.holds (b.lfs + x.lfs) counted (not_refused area)
+          ∙ sym (commit_plain_is src s b.end x read (b.lfs + x.lfs) table list area p written (rw (e, (plain x p).0, add-zero)))
         where
           written : after ≡ sets table s.lines (starts_from src s read)
           written = w ∙ ap (sets table s.lines) (sym (starts_parted src s b.end at x k.reads.token l f))
@@ -144,7 +139,7 @@ module _ (src : List ℕ) (s : State) (table list : List ℕ) (b : Skipped) (x :
       on_line : plain_token s b x (s.offset + read) s.lines s.line ≡ quick_token s b x (s.offset + read) table
       on_line = rw (z, add-zero s.lines, kept.line)
 
-      pub tries_on_line : {r : Tried} → r ≡ plain_token s b x (s.offset + n) s.lines s.line → Tries src s table list r table
+      pub tries_on_line : {r : Scanned} → r ≡ plain_token s b x (s.offset + n) s.lines s.line → Tries src s table list (Some r) table
       tries_on_line e =
           given passed.0 passed.1 (omega (arith, z)) feedless (rw no_starts) (rw (sym k.chars) e ∙ on_line)
 
@@ -153,6 +148,6 @@ module _ (src : List ℕ) (s : State) (table list : List ℕ) (b : Skipped) (x :
       pub quick_ready : length src < 2 ^ 63 → QuickReady src s b x table
       quick_ready = ready passed.0 passed.1 g
 
-      pub tries_done : {after : List ℕ} {r : Tried} → after ≡ sets table s.lines (starts_from src s (b.end - s.place) ++ start_after x (s.offset + n))
-          → r ≡ quick_token s b x (s.offset + n) after → Tries src s table list r after
+      pub tries_done : {after : List ℕ} {r : Scanned} → after ≡ sets table s.lines (starts_from src s (b.end - s.place) ++ start_after x (s.offset + n))
+          → r ≡ quick_token s b x (s.offset + n) after → Tries src s table list (Some r) after
       tries_done w e = given passed.0 passed.1 g f (rw (sym k.chars) w) (rw (sym k.chars) e)

@@ -1,5 +1,5 @@
 -- Steps of the code. No public contract cites this file. Scans of tokens that are given at once.
-use Rattle.std.specs.Prelude.{ℕ, ◌+◌, ◌-◌, ◌≤◌, ◌<◌, ◌^◌, ◌≡◌, Bool, true, false, cond, ◌&&◌, List, [], ◌∷◌, eqb, ltb, length, get_or}
+use Rattle.std.specs.Prelude.{ℕ, ◌+◌, ◌-◌, ◌≤◌, ◌<◌, ◌^◌, ◌≡◌, Bool, true, false, cond, ◌&&◌, List, [], ◌∷◌, eqb, ltb, length, get_or, Option, MatchOption}
 use Prim.Native.Char.{code}
 use Rattle.position.specs.declared.Line.{Line}
 use Rattle.position.specs.Lines.{line_in}
@@ -7,12 +7,9 @@ use Rattle.blanks.specs.declared.Skipped.{Skipped}
 use Rattle.lexer.specs.declared.lexed.Lexed.{Lexed}
 use Rattle.state.specs.declared.state.State.{State}
 use Rattle.state.specs.State.{advance}
-use Rattle.scanner.specs.declared.quick.Tried.{Tried}
-use Rattle.scanner.specs.Scan.{no_token, scan_of}
+use Rattle.scanner.specs.declared.answer.Scanned.{Scanned}
+use Rattle.scanner.specs.Scan.{gave_answer, scan_of}
 use Rattle.scanner.specs.Steps.{text_len, value_len, token_by, is_plain, starts_from, position_by}
-
-abbrev pub not_done : State → Tried
-not_done s = record { done = false; state = s; token = no_token }
 
 -- has a token no line feed but perhaps its last byte?
 unfoldable pub ends_in_feed : List ℕ → Lexed → Bool
@@ -30,8 +27,8 @@ is_quick s x offset = is_plain x && ltb offset s.size
 pub record PlainReady (s : State) (b : Skipped) (x : Lexed) : Type 0 where
   pub behind : s.place ≤ b.end
   pub position : position_by s b.end < 2 ^ 64
-  pub text : x.text_differs ≡ false
-  pub value : x.value_differs ≡ false
+  pub text : x.text.differs ≡ false
+  pub value : x.value.differs ≡ false
   pub bytes : b.end + 1 + text_len x + value_len x < 2 ^ 64
 
 -- and where it has no line feed but perhaps its last byte: the starts of the blanks, and room in the
@@ -43,24 +40,22 @@ pub record QuickReady (src : List ℕ) (s : State) (b : Skipped) (x : Lexed) (ta
   pub table_room : s.lines + (b.lfs + x.lfs) ≤ length table
 
 -- the token, and the state at the offset where it ends: with so many lines, on this one
-abbrev pub plain_token : State → Skipped → Lexed → ℕ → ℕ → Line → Tried
+abbrev pub plain_token : State → Skipped → Lexed → ℕ → ℕ → Line → Scanned
 plain_token s b x offset lines line =
     record {
-      done = true;
       state = advance s x.end offset x.mark lines s.errors line;
       token = token_by x b.end (position_by s b.end);
     }
 
 -- with the table that has its line starts
-abbrev pub quick_token : State → Skipped → Lexed → ℕ → List ℕ → Tried
+abbrev pub quick_token : State → Skipped → Lexed → ℕ → List ℕ → Scanned
 quick_token s b x offset table =
     let lines = s.lines + (b.lfs + x.lfs) in
     plain_token s b x offset lines (line_in table lines)
 
--- what is done is what the scan does, with list and area as they are; what is not done leaves the
--- table as it was
-abbrev pub Tries : List ℕ → State → List ℕ → List ℕ → Tried → List ℕ → Type 0
+-- what is given is what the scan gives, with list and area as they are; where nothing is, the table
+-- is as it was
+abbrev pub Tries : List ℕ → State → List ℕ → List ℕ → Option Scanned → List ℕ → Type 0
 Tries src s table list r table' =
-    (r.done ≡ false → table' ≡ table)
-    × (r.done ≡ true → (area : List ℕ) → scan_of src s table list area
-    ≡ record { table = table'; list = list; area = area; answer = record { refusal = 0; state = r.state; token = r.token } })
+    MatchOption r (table' ≡ table)
+    (λ x. (area : List ℕ) → scan_of src s table list area ≡ record { table = table'; list = list; area = area; answer = gave_answer x })

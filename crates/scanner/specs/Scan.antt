@@ -1,7 +1,9 @@
 -- One scan with lent buffers: which refusal it gives, and else the token, the state and what is
 -- written.
-use Rattle.std.specs.Prelude.{ℕ, zero, suc, ◌+◌, ◌*◌, Bool, false, cond, not, List, [], ◌++◌, eqb, ltb, length, take, drop}
+use Rattle.std.specs.Prelude.{ℕ, zero, suc, ◌+◌, ◌*◌, Bool, false, cond, not, List, [], ◌++◌, eqb, ltb, length, take, drop, Result, Ok, Err}
 use Rattle.std.proofs.lemmas.List.Edits.{sets}
+use Rattle.refusal.specs.declared.Refusal.{Refusal}
+use Rattle.refusal.specs.Outcome.{refusal_number}
 use Rattle.refusal.specs.Refusals.{BAD_SIZE, DOES_NOT_FIT, TABLE_FULL, LIST_FULL, AREA_FULL}
 use Rattle.utf8.specs.Chars.{chars, widths}
 use Rattle.kinds.specs.Kinds.{NONE, STRING}
@@ -94,12 +96,18 @@ refusal_of fit size u table list toWrite area =
     (record { offset = u.offset; lines = length u.lines; errors = length u.errors; bytes = toWrite })
     (record { offset = size; lines = table; errors = list; bytes = area })
 
+-- what a scan answers: the refusal by number, or 0; the state after it; and the token
+pub record Answer : Type 0 where
+  pub refusal : ℕ
+  pub state : State
+  pub token : Token
+
 -- what a scan leaves in the buffers, and its answer
 pub record ScanLeft : Type 0 where
   pub table : List ℕ
   pub list : List ℕ
   pub area : List ℕ
-  pub answer : Scanned
+  pub answer : Answer
 
 -- no token
 abbrev pub no_part : Part
@@ -107,6 +115,15 @@ no_part = record { area = false; start = 0; end = 0 }
 
 abbrev pub no_token : Token
 no_token = record { kind = NONE; inserted = false; position = 0; code = 0; text = no_part; value = no_part }
+
+-- what the code's answer to a scan of a state says: a refused scan leaves the state as it was, and
+-- gives no token
+abbrev pub gave_answer : Scanned → Answer
+gave_answer x = record { refusal = 0; state = x.state; token = x.token }
+
+abbrev pub answer_of : State → Result Scanned Refusal → Answer
+answer_of s (Ok x) = gave_answer x
+answer_of s (Err refusal) = record { refusal = refusal_number refusal; state = s; token = no_token }
 
 -- "The answer is the number; state and buffers are those of entry."
 abbrev pub refused_by : ℕ → State → List ℕ → List ℕ → List ℕ → ScanLeft

@@ -1,11 +1,15 @@
 -- Steps of the code. No public contract cites this file. A scan by the lexer's answer.
-use Rattle.std.specs.Prelude.{ℕ, ◌+◌, ◌*◌, ◌-◌, ◌≤◌, ◌<◌, ◌^◌, ◌≡◌, Bool, true, cond, not, ◌&&◌, List, eqb, length, take, drop}
+use Rattle.std.specs.Prelude.{ℕ, ◌+◌, ◌*◌, ◌-◌, ◌≤◌, ◌<◌, ◌^◌, ◌≡◌, Bool, true, cond, not, ◌&&◌, List, eqb, length, take, drop, Result, Ok, Err}
 use Rattle.std.proofs.lemmas.List.Edits.{sets}
+use Rattle.refusal.specs.declared.Refusal.{Refusal}
+use Rattle.refusal.specs.Outcome.{refusal_number}
 use Rattle.utf8.specs.Chars.{chars}
 use Rattle.kinds.specs.Kinds.{STRING}
+use Rattle.kinds.specs.Number.{kind_number}
 use Rattle.lines.specs.Starts.{starts_read}
 use Rattle.position.specs.Lines.{line_start, line_in}
 use Rattle.position.specs.Place.{fitting}
+use Rattle.errors.specs.Faults.{error_number}
 use Rattle.errors.specs.Layout.{width, numbers}
 use Rattle.errors.specs.Errors.{room_of}
 use Rattle.reading.specs.Reading.{error_at}
@@ -22,14 +26,18 @@ use Rattle.scanner.specs.Scan.{part_from, written, to_area, refusal_for, ScanLef
 
 -- how many bytes text and value have
 abbrev pub text_len : Lexed → ℕ
-text_len x = length_of x.text_bytes x.strays x.text_differs
+text_len x = length_of x.text.bytes x.strays x.text.differs
 
 abbrev pub value_len : Lexed → ℕ
-value_len x = length_of x.value_bytes x.strays x.value_differs
+value_len x = length_of x.value.bytes x.strays x.value.differs
 
--- how many of them are to be written
+-- how many bytes of the area a text or a value takes, if it goes there
+abbrev pub area_len : ℕ → ℕ → Bool → ℕ
+area_len bytes strays differs = cond differs (length_of bytes strays differs) 0
+
+-- how many bytes are to be written of a token
 abbrev pub to_write : Lexed → ℕ
-to_write x = cond x.text_differs (text_len x) 0 + cond x.value_differs (value_len x) 0
+to_write x = area_len x.text.bytes x.strays x.text.differs + area_len x.value.bytes x.strays x.value.differs
 
 -- the first refusal of 3, 7, 8, 9, or 0: for the offset reached, the line starts and errors then,
 -- and the lengths of the buffers
@@ -39,35 +47,40 @@ refusal_by x offset starts s table list area =
     (record {
       offset = offset;
       lines = s.lines + starts;
-      errors = s.errors + cond (eqb x.error 0) 0 1;
+      errors = s.errors + cond (eqb (error_number x.error) 0) 0 1;
       bytes = to_write x;
     })
     (record { offset = s.size; lines = table; errors = list; bytes = area })
+
+-- the refusal that a check answers by number, or 0
+abbrev pub refusal_in : Result (Unit {0}) Refusal → ℕ
+refusal_in (Ok _) = 0
+refusal_in (Err refusal) = refusal_number refusal
 
 -- the state after a token that ends at an offset and records so many line starts, with the table
 -- that has them
 abbrev pub state_by : Lexed → ℕ → ℕ → State → List ℕ → State
 state_by x offset starts s table =
-    advance s x.end offset x.mark (s.lines + starts) (s.errors + cond (eqb x.error 0) 0 1) (line_in table (s.lines + starts))
+    advance s x.end offset x.mark (s.lines + starts) (s.errors + cond (eqb (error_number x.error) 0) 0 1) (line_in table (s.lines + starts))
 
 -- the token that was read at a place, with its position
 abbrev pub token_by : Lexed → ℕ → ℕ → Token
 token_by x start position =
     record {
-      kind = x.kind;
+      kind = kind_number x.kind;
       inserted = x.inserted;
       position = position;
       code = x.code;
-      text = part_from x.text_differs (cond x.text_differs 0 start) (text_len x);
+      text = part_from x.text.differs (cond x.text.differs 0 start) (text_len x);
       value =
-          part_from x.value_differs
-          (cond x.value_differs (cond x.text_differs (text_len x) 0) (cond (eqb x.kind STRING) (start + 1) start))
+          part_from x.value.differs
+          (cond x.value.differs (cond x.text.differs (text_len x) 0) (cond (eqb (kind_number x.kind) STRING) (start + 1) start))
           (value_len x);
     }
 
 -- has it no error, and are text and value the source's own bytes?
 abbrev pub is_plain : Lexed → Bool
-is_plain x = eqb x.error 0 && not x.text_differs && not x.value_differs
+is_plain x = eqb (error_number x.error) 0 && not x.text.differs && not x.value.differs
 
 -- the line starts that the next characters record, so many of them
 abbrev pub starts_from : List ℕ → State → ℕ → List ℕ
@@ -92,7 +105,7 @@ pub record Ready (src : List ℕ) (s : State) (start : ℕ) (x : Lexed) (read st
   pub last : line_start table s.lines ≤ s.offset
   pub sized : s.offset + read ≤ s.size
   pub table_room : s.lines + starts ≤ length table
-  pub list_room : s.errors + cond (eqb x.error 0) 0 1 ≤ room_of list
+  pub list_room : s.errors + cond (eqb (error_number x.error) 0) 0 1 ≤ room_of list
   pub area_room : to_write x ≤ length area
   -- its bytes come after the blanks
   pub behind : s.place ≤ start
@@ -116,8 +129,8 @@ left_of src s start x read starts table list area =
     record {
       table = table';
       list =
-          cond (eqb x.error 0) list
-          (sets list (s.errors * width) (numbers (error_at x.error (s.offset + read) (line_in table' (s.lines + starts)))));
+          cond (eqb (error_number x.error) 0) list
+          (sets list (s.errors * width) (numbers (error_at (error_number x.error) (s.offset + read) (line_in table' (s.lines + starts)))));
       area = written (to_area (said src start x)) area;
     }
 

@@ -3,11 +3,12 @@
 
 mod answer;
 mod quick;
+mod read;
 mod scanning;
 mod write;
 
 pub use answer::Scanned;
-pub use opening::{Opened, open};
+pub use opening::{NotOpened, Opened, open};
 pub use parts::{Part, Token, put_token, shown, text, value};
 pub use queries::{error, line_start, position};
 pub use scanning::scan;

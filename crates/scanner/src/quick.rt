@@ -3,63 +3,36 @@
 ghost use Rattle.std.specs.Prelude.{◌≡◌, ◌+◌, ◌-◌, ◌≤◌, ◌++◌, length};
 ghost use Rattle.std.proofs.lemmas.List.Edits.{sets};
 ghost use Rattle.scanner.specs.Steps.{starts_from, Known};
-ghost use Rattle.scanner.specs.Quick.{not_done, ends_in_feed, start_after, is_quick, PlainReady, QuickReady, plain_token, quick_token, Tries};
+ghost use Rattle.scanner.specs.Quick.{ends_in_feed, start_after, is_quick, PlainReady, QuickReady, plain_token, quick_token, Tries};
 
-use crate::answer::{is_plain, no_token, plain_token, position_at};
-use blanks::Skipped;
+use crate::answer::{Scanned, is_plain, last_line, position_at, token_of};
+use crate::read::Pass;
 use lexer::Lexed;
-use parts::Token;
 use position::Line;
 use state::State;
 
-// Whether a scan is done; if so, the state after it and the token.
-#[derive(Clone, Copy)]
-pub(crate) struct Tried {
-    pub(crate) done: bool,
-    pub(crate) state: State,
-    pub(crate) token: Token,
-}
-
-fn not_done(state: State) -> Tried
-    ensures { result ≡ not_done state }
-{
-    let token = no_token();
-    Tried {
-        done: false,
-        state,
-        token,
-    }
-}
-
 // Has a token no line feed but perhaps its last byte?
+#[tactic(auto, unfolding(crate::specs::Quick::ends_in_feed))]
 fn ends_in_feed(src: &[u8], x: Lexed) -> bool
     requires { (x.lfs ≤ x.end) × (x.end ≤ length src.now) }
     ensures { result ≡ ends_in_feed src.now x }
 {
-    if x.lfs == 0 {
-        return true;
+    match x.lfs {
+        0 => true,
+        1 => src[x.end - 1] == b'\n',
+        _ => false,
     }
-    if x.lfs > 1 {
-        return false;
-    }
-    src[x.end - 1] == b'\n'
 }
 
 // Records the line starts of blanks, and the one after a token that ends in a line feed at an
 // offset.
-fn record_ends(
-    src: &[u8],
-    state: State,
-    blanks: Skipped,
-    x: Lexed,
-    offset: usize,
-    table: &mut [usize],
-)
-    requires { (state.place ≤ blanks.end) × (blanks.lfs ≡ length (starts_from src.now state (blanks.end - state.place)))
-        × (state.lines + (blanks.lfs + x.lfs) ≤ length table.old) }
+fn record_ends(src: &[u8], state: State, pass: Pass, offset: usize, table: &mut [usize])
+    requires { (state.place ≤ pass.blanks.end) × (pass.blanks.lfs ≡ length (starts_from src.now state (pass.blanks.end - state.place)))
+        × (state.lines + (pass.blanks.lfs + pass.token.lfs) ≤ length table.old) }
     ensures { table.new ≡ sets table.old state.lines
-        (starts_from src.now state (blanks.end - state.place) ++ start_after x offset) }
+        (starts_from src.now state (pass.blanks.end - state.place) ++ start_after pass.token offset) }
 {
+    let blanks = pass.blanks;
     if blanks.lfs > 0 {
         lines::write_starts(
             src,
@@ -71,7 +44,7 @@ fn record_ends(
             state.lines,
         );
     }
-    if x.lfs > 0 {
+    if pass.token.lfs > 0 {
         table[state.lines + blanks.lfs] = offset;
     }
 }
@@ -80,74 +53,60 @@ fn record_ends(
 fn is_quick(state: State, x: Lexed, offset: usize) -> bool
     ensures { result ≡ is_quick state x offset }
 {
-    is_plain(x) & (offset < state.size)
+    is_plain(x) && offset < state.size
 }
 
 // The token that was read, and the state at the offset where it ends: with so many lines, on this
 // one.
-fn given(state: State, blanks: Skipped, x: Lexed, offset: usize, lines: usize, line: Line) -> Tried
-    requires { PlainReady state blanks x }
-    ensures { result ≡ plain_token state blanks x offset lines line }
+fn given(state: State, pass: Pass, offset: usize, lines: usize, line: Line) -> Scanned
+    requires { PlainReady state pass.blanks pass.token }
+    ensures { result ≡ plain_token state pass.blanks pass.token offset lines line }
 {
-    let token = plain_token(x, blanks.end, position_at(state, blanks.end));
-    let next = state.advanced(x.end, offset, x.mark, lines, state.errors, line);
-    Tried {
-        done: true,
-        state: next,
+    let x = pass.token;
+    let start = pass.blanks.end;
+    let token = token_of(x, start, position_at(state, start));
+    Scanned {
+        state: state.advanced(x.end, offset, x.mark, lines, state.errors, line),
         token,
     }
 }
 
 // Gives such a token, which ends at an offset and has no line feed but perhaps its last byte.
-fn give_quick(
-    src: &[u8],
-    state: State,
-    blanks: Skipped,
-    x: Lexed,
-    offset: usize,
-    table: &mut [usize],
-) -> Tried
-    requires { QuickReady src.now state blanks x table.old }
+fn give_quick(src: &[u8], state: State, pass: Pass, offset: usize, table: &mut [usize]) -> Scanned
+    requires { QuickReady src.now state pass.blanks pass.token table.old }
     ensures { (table.new ≡ sets table.old state.lines
-        (starts_from src.now state (blanks.end - state.place) ++ start_after x offset)) × (result ≡ quick_token state blanks x offset table.new) }
+        (starts_from src.now state (pass.blanks.end - state.place) ++ start_after pass.token offset)) × (result ≡ quick_token state pass.blanks pass.token offset table.new) }
 {
-    let lines = state.lines + (blanks.lfs + x.lfs);
-    record_ends(src, state, blanks, x, offset, table);
-    let start = table[lines - 1];
-    let line = Line {
-        number: lines,
-        start,
-    };
-    given(state, blanks, x, offset, lines, line)
+    let lines = state.lines + (pass.blanks.lfs + pass.token.lfs);
+    record_ends(src, state, pass, offset, table);
+    given(state, pass, offset, lines, last_line(table, lines))
 }
 
-// Tries the token that the lexer read after the blanks; with them, so many characters are read. Most
-// tokens read no line feed, and stay on their line.
+// Tries the token of a pass. Most tokens read no line feed, and stay on their line.
 pub(crate) fn try_plain(
     src: &[u8],
     state: State,
-    blanks: Skipped,
-    x: Lexed,
-    read: usize,
+    pass: Pass,
     table: &mut [usize],
     list: &[usize],
-) -> Tried
-    requires { Known src.now state table.old list.now blanks x read }
+) -> Option<Scanned>
+    requires { Known src.now state table.old list.now pass.blanks pass.token pass.chars }
     ensures { Tries src.now state table.old list.now result table.new }
 {
-    let offset = state.offset + read;
+    let x = pass.token;
+    let offset = state.offset + pass.chars;
     if !is_quick(state, x, offset) {
-        return not_done(state);
+        return None;
     }
-    let feeds = blanks.lfs + x.lfs;
+    let feeds = pass.blanks.lfs + x.lfs;
     if feeds == 0 {
-        return given(state, blanks, x, offset, state.lines, state.line);
+        return Some(given(state, pass, offset, state.lines, state.line));
     }
     if !ends_in_feed(src, x) {
-        return not_done(state);
+        return None;
     }
     if table.len() - state.lines < feeds {
-        return not_done(state);
+        return None;
     }
-    give_quick(src, state, blanks, x, offset, table)
+    Some(give_quick(src, state, pass, offset, table))
 }

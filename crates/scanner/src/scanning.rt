@@ -1,22 +1,24 @@
 // One scan: a pass that only reads, the checks, and then what is written.
-ghost use Rattle.std.specs.Prelude.{◌≡◌, ◌+◌, ◌*◌, ◌-◌, ◌≤◌, ◌<◌, ◌^◌, true, cond, leb, eqb, length, take, drop};
+ghost use Rattle.std.specs.Prelude.{◌≡◌, ◌+◌, ◌*◌, ◌-◌, ◌≤◌, ◌<◌, ◌^◌, true, cond, leb, eqb, length, take, drop, SomeIff};
 ghost use Rattle.std.proofs.lemmas.List.Edits.{sets};
 ghost use Rattle.utf8.specs.Chars.{chars};
 ghost use Rattle.utf8.specs.Count.{is_lf, count};
 ghost use Rattle.lines.specs.Starts.{starts_read};
+ghost use Rattle.errors.specs.Faults.{error_number};
 ghost use Rattle.errors.specs.Layout.{width, numbers};
 ghost use Rattle.errors.specs.Errors.{room_of};
 ghost use Rattle.reading.specs.Reading.{error_at};
 ghost use Rattle.state.specs.Fits.{fits};
-ghost use Rattle.scanner.specs.Scan.{scan_of};
-ghost use Rattle.scanner.specs.Steps.{to_write, refusal_by, state_by, starts_from, Reads, Known, Ready, left_of, commit_of};
+ghost use Rattle.scanner.specs.Scan.{gave_answer, answer_of, scan_of};
+ghost use Rattle.scanner.specs.Steps.{area_len, to_write, refusal_by, refusal_in, state_by, starts_from, Known, Ready, left_of, commit_of};
 
-use crate::answer::{Scanned, gave, position_at, refused, token_of};
+use crate::answer::{Scanned, last_line, position_at, token_of};
 use crate::quick::try_plain;
+use crate::read::{Pass, read_next};
 use crate::write::{write_area, write_error};
-use blanks::Skipped;
-use lexer::Lexed;
-use position::Line;
+use errors::Fault;
+use lexer::{Lexed, Shown};
+use refusal::Refusal;
 use state::State;
 
 // How many line starts the next characters record, so many of them with so many line feeds; at the
@@ -32,37 +34,31 @@ fn starts_read(src: &[u8], state: State, read: usize, lfs: usize) -> usize
     lines::count_starts(src, state.place, read, state.offset, state.size)
 }
 
-// Does an area of so many bytes hold what is to be written of a token? A stray byte is counted once
-// and written in three bytes.
+// What is left of so much room after a text or a value, if that goes to the area. A stray byte is
+// counted once and written in three bytes.
+fn room_after<T: Copy>(room: usize, shown: Shown<T>, strays: usize) -> Option<usize>
+    ensures { SomeIff result (area_len shown.bytes strays shown.differs ≤ room) (room - area_len shown.bytes strays shown.differs) }
+{
+    if !shown.differs {
+        return Some(room);
+    }
+    room.checked_sub(shown.bytes)?
+        .checked_sub(strays.checked_mul(2)?)
+}
+
+// Does an area of so many bytes hold what is to be written of a token?
 fn has_room(x: Lexed, area: usize) -> bool
     ensures { result ≡ leb (to_write x) area }
 {
-    let mut room = area;
-    if x.text_differs {
-        if x.text_bytes > room {
-            return false;
-        }
-        room -= x.text_bytes;
-        if x.strays > room / 2 {
-            return false;
-        }
-        room -= 2 * x.strays;
+    match room_after(area, x.text, x.strays) {
+        None => false,
+        Some(room) => room_after(room, x.value, x.strays).is_some(),
     }
-    if x.value_differs {
-        if x.value_bytes > room {
-            return false;
-        }
-        room -= x.value_bytes;
-        if x.strays > room / 2 {
-            return false;
-        }
-    }
-    true
 }
 
-// The first refusal of 3, 7, 8 and 9 whose condition holds, or 0: for the offset reached, the line
-// starts read and the lengths of the buffers.
-fn refusal_of(
+// The first refusal of 3, 7, 8 and 9 whose condition holds: for the offset reached, the line starts
+// read and the lengths of the buffers.
+fn check(
     x: Lexed,
     offset: usize,
     starts: usize,
@@ -70,25 +66,23 @@ fn refusal_of(
     table: usize,
     list: usize,
     area: usize,
-) -> u8
+) -> Result<(), Refusal>
     requires { (state.lines ≤ table) × (state.errors ≤ list) }
-    ensures { result ≡ refusal_by x offset starts state table list area }
+    ensures { refusal_in result ≡ refusal_by x offset starts state table list area }
 {
     if offset > state.size {
-        return refusal::BAD_SIZE;
+        return Err(Refusal::BadSize);
     }
     if starts > table - state.lines {
-        return refusal::TABLE_FULL;
+        return Err(Refusal::TableFull);
     }
-    if x.error != 0 {
-        if state.errors == list {
-            return refusal::LIST_FULL;
-        }
+    if x.error.is_some() && state.errors == list {
+        return Err(Refusal::ListFull);
     }
     if !has_room(x, area) {
-        return refusal::AREA_FULL;
+        return Err(Refusal::AreaFull);
     }
-    0
+    Ok(())
 }
 
 // The state after a token that ends at an offset and records so many line starts, which the table
@@ -97,18 +91,19 @@ fn state_after(x: Lexed, offset: usize, starts: usize, state: State, table: &[us
     requires { (1 ≤ state.lines) × (state.lines + starts ≤ length table.now) × (state.errors + 1 < 2 ^ 64) }
     ensures { result ≡ state_by x offset starts state table.now }
 {
-    let errors = if x.error == 0 {
-        state.errors
-    } else {
-        state.errors + 1
+    let errors = match x.error {
+        None => state.errors,
+        Some(_) => state.errors + 1,
     };
     let lines = state.lines + starts;
-    let start = table[lines - 1];
-    let line = Line {
-        number: lines,
-        start,
-    };
-    state.advanced(x.end, offset, x.mark, lines, errors, line)
+    state.advanced(
+        x.end,
+        offset,
+        x.mark,
+        lines,
+        errors,
+        last_line(table, lines),
+    )
 }
 
 // Records the line starts of the next characters; where there are none, they are not read again.
@@ -116,53 +111,54 @@ fn record_starts(src: &[u8], state: State, read: usize, starts: usize, table: &m
     requires { starts ≡ length (starts_from src.now state read) }
     ensures { table.new ≡ sets table.old state.lines (starts_from src.now state read) }
 {
-    if starts == 0 {
-        return;
+    if starts > 0 {
+        lines::write_starts(
+            src,
+            state.place,
+            read,
+            state.offset,
+            state.size,
+            table,
+            state.lines,
+        );
     }
-    lines::write_starts(
-        src,
-        state.place,
-        read,
-        state.offset,
-        state.size,
-        table,
-        state.lines,
-    );
 }
 
 // Records the error of a token, if it has one, after the first `count`.
-fn record_error(after: State, list: &mut [usize], count: usize, number: u8)
-    requires { (after.line.start ≤ after.offset) × (after.offset + 1 < 2 ^ 64) × (count + cond (eqb number 0) 0 1 ≤ room_of list.old) }
-    ensures { list.new ≡ cond (eqb number 0) list.old (sets list.old (count * width)
-        (numbers (error_at number after.offset after.line))) }
+fn record_error(after: State, list: &mut [usize], count: usize, error: Option<Fault>)
+    requires { (after.line.start ≤ after.offset) × (after.offset + 1 < 2 ^ 64)
+        × (count + cond (eqb (error_number error) 0) 0 1 ≤ room_of list.old) }
+    ensures { list.new ≡ cond (eqb (error_number error) 0) list.old (sets list.old (count * width)
+        (numbers (error_at (error_number error) after.offset after.line))) }
 {
-    if number == 0 {
-        return;
+    if let Some(fault) = error {
+        write_error(after, list, count, fault);
     }
-    write_error(after, list, count, number);
 }
+
+// The buffers go as three parameters, as `scan` is lent them: a struct of three `&mut` slices would
+// have each step say that it keeps each reference.
 
 // Writes what a token that passed the checks leaves in the buffers; answers the state after it.
 fn write_token(
     src: &[u8],
     state: State,
-    start: usize,
-    x: Lexed,
-    read: usize,
+    pass: Pass,
     starts: usize,
     table: &mut [usize],
     list: &mut [usize],
     area: &mut [u8],
 ) -> State
-    requires { Ready src.now state start x read starts table.old list.old area.old }
+    requires { Ready src.now state pass.blanks.end pass.token pass.chars starts table.old list.old area.old }
     ensures { (record { table = table.new; list = list.new; area = area.new }
-        ≡ left_of src.now state start x read starts table.old list.old area.old)
-        × (result ≡ state_by x (state.offset + read) starts state table.new) }
+        ≡ left_of src.now state pass.blanks.end pass.token pass.chars starts table.old list.old area.old)
+        × (result ≡ state_by pass.token (state.offset + pass.chars) starts state table.new) }
 {
-    record_starts(src, state, read, starts, table);
-    let after = state_after(x, state.offset + read, starts, state, table);
+    let x = pass.token;
+    record_starts(src, state, pass.chars, starts, table);
+    let after = state_after(x, state.offset + pass.chars, starts, state, table);
     record_error(after, list, state.errors, x.error);
-    write_area(src, start, x, area);
+    write_area(src, pass.blanks.end, x, area);
     after
 }
 
@@ -170,55 +166,44 @@ fn write_token(
 fn commit(
     src: &[u8],
     state: State,
-    start: usize,
-    x: Lexed,
-    read: usize,
+    pass: Pass,
     starts: usize,
     table: &mut [usize],
     list: &mut [usize],
     area: &mut [u8],
 ) -> Scanned
-    requires { Ready src.now state start x read starts table.old list.old area.old }
-    ensures { record { table = table.new; list = list.new; area = area.new; answer = result }
-        ≡ commit_of src.now state start x read starts table.old list.old area.old }
+    requires { Ready src.now state pass.blanks.end pass.token pass.chars starts table.old list.old area.old }
+    ensures { record { table = table.new; list = list.new; area = area.new; answer = gave_answer result }
+        ≡ commit_of src.now state pass.blanks.end pass.token pass.chars starts table.old list.old area.old }
 {
-    let token = token_of(x, start, position_at(state, start));
-    let after = write_token(src, state, start, x, read, starts, table, list, area);
-    gave(after, token)
+    let start = pass.blanks.end;
+    let token = token_of(pass.token, start, position_at(state, start));
+    let after = write_token(src, state, pass, starts, table, list, area);
+    Scanned {
+        state: after,
+        token,
+    }
 }
 
-// What a scan comes to by the blanks and the token that it read, so many characters in all: the
-// checks, and then what is written.
+// What a scan comes to by its pass: the checks, and then what is written.
 fn finish(
     src: &[u8],
     state: State,
-    blanks: Skipped,
-    x: Lexed,
-    read: usize,
+    pass: Pass,
     table: &mut [usize],
     list: &mut [usize],
     area: &mut [u8],
-) -> Scanned
-    requires { Known src.now state table.old list.old blanks x read }
-    ensures { record { table = table.new; list = list.new; area = area.new; answer = result }
+) -> Result<Scanned, Refusal>
+    requires { Known src.now state table.old list.old pass.blanks pass.token pass.chars }
+    ensures { record { table = table.new; list = list.new; area = area.new; answer = answer_of state result }
         ≡ scan_of src.now state table.old list.old area.old }
 {
-    let offset = state.offset + read;
+    let x = pass.token;
+    let offset = state.offset + pass.chars;
     let room = errors::room(list);
-    let starts = starts_read(src, state, read, blanks.lfs + x.lfs);
-    let number = refusal_of(x, offset, starts, state, table.len(), room, area.len());
-    if number != 0 {
-        return refused(number, state);
-    }
-    commit(src, state, blanks.end, x, read, starts, table, list, area)
-}
-
-// How many characters blanks and the token after them have.
-fn chars_read(src: &[u8], state: State, blanks: Skipped, x: Lexed) -> usize
-    requires { (state.place ≤ length src.now) × Reads src.now state blanks x }
-    ensures { result ≡ blanks.end - state.place + x.chars }
-{
-    blanks.end - state.place + x.chars
+    let starts = starts_read(src, state, pass.chars, pass.blanks.lfs + x.lfs);
+    check(x, offset, starts, state, table.len(), room, area.len())?;
+    Ok(commit(src, state, pass, starts, table, list, area))
 }
 
 // Scans one token where the state fits: a pass that only reads, the checks, and then what is
@@ -229,19 +214,16 @@ fn scan_next(
     table: &mut [usize],
     list: &mut [usize],
     area: &mut [u8],
-) -> Scanned
+) -> Result<Scanned, Refusal>
     requires { fits state src.now table.old list.old ≡ true }
-    ensures { record { table = table.new; list = list.new; area = area.new; answer = result }
+    ensures { record { table = table.new; list = list.new; area = area.new; answer = answer_of state result }
         ≡ scan_of src.now state table.old list.old area.old }
 {
-    let blanks = blanks::skip_blanks(src, state.place, state.mark);
-    let x = lexer::lex_token(src, blanks.end, state.mark);
-    let read = chars_read(src, state, blanks, x);
-    let tried = try_plain(src, state, blanks, x, read, table, list);
-    if !tried.done {
-        return finish(src, state, blanks, x, read, table, list, area);
+    let pass = read_next(src, state);
+    match try_plain(src, state, pass, table, list) {
+        Some(scanned) => Ok(scanned),
+        None => finish(src, state, pass, table, list, area),
     }
-    gave(tried.state, tried.token)
 }
 
 // Scans one token.
@@ -251,12 +233,12 @@ pub fn scan(
     table: &mut [usize],
     list: &mut [usize],
     area: &mut [u8],
-) -> Scanned
-    ensures { record { table = table.new; list = list.new; area = area.new; answer = result }
+) -> Result<Scanned, Refusal>
+    ensures { record { table = table.new; list = list.new; area = area.new; answer = answer_of state result }
         ≡ scan_of src.now state table.old list.old area.old }
 {
     if !state.fits(src, table, list) {
-        return refused(refusal::DOES_NOT_FIT, state);
+        return Err(Refusal::DoesNotFit);
     }
     scan_next(src, state, table, list, area)
 }

@@ -2,6 +2,7 @@
 // differ from the source's bytes.
 ghost use Rattle.std.specs.Prelude.{◌≡◌, ◌+◌, ◌*◌, ◌≤◌, ◌<◌, ◌^◌, length};
 ghost use Rattle.std.proofs.lemmas.List.Edits.{sets};
+ghost use Rattle.errors.specs.Faults.{fault_number};
 ghost use Rattle.errors.specs.Layout.{width, numbers};
 ghost use Rattle.errors.specs.Errors.{room_of};
 ghost use Rattle.reading.specs.Reading.{error_at};
@@ -9,23 +10,25 @@ ghost use Rattle.lexer.specs.Placed.{said};
 ghost use Rattle.scanner.specs.Scan.{written, to_area};
 ghost use Rattle.scanner.specs.Steps.{text_len, to_write};
 
+use errors::{Error, Fault};
 use lexer::{Lexed, Text, Value};
 use state::State;
 
 // Records an error at the offset that was reached, after the first `count` of the list.
-pub(crate) fn write_error(after: State, list: &mut [usize], count: usize, number: u8)
+#[tactic(auto, using(errors::proofs::Laws::add_gave))]
+pub(crate) fn write_error(after: State, list: &mut [usize], count: usize, fault: Fault)
     requires { (after.line.start ≤ after.offset) × (after.offset + 1 < 2 ^ 64) × (count < room_of list.old) }
-    ensures { list.new ≡ sets list.old (count * width) (numbers (error_at number after.offset after.line)) }
+    ensures { list.new ≡ sets list.old (count * width) (numbers (error_at (fault_number fault) after.offset after.line)) }
 {
     let offset = after.offset;
     let column = offset - after.line.start + 1;
-    let error = errors::Error {
+    let error = Error {
         offset,
         line: after.line.number,
         column,
-        number: number as usize,
+        number: fault as usize,
     };
-    errors::add(list, count, error);
+    let _ = errors::add(list, count, error);
 }
 
 // Writes the text of a token at the area's start.
@@ -33,8 +36,7 @@ fn write_text(src: &[u8], start: usize, x: Lexed, area: &mut [u8])
     requires { start ≤ x.end }
     ensures { area.new ≡ sets area.old 0 (said src.now start x).lexeme.text }
 {
-    let text = x.text;
-    match text {
+    match x.text.making {
         Text::Empty => {}
         Text::AsRead => writing::write_encoded(src, start, x.chars, area, 0),
         Text::Number(spelling) => writing::write_number(
@@ -55,8 +57,7 @@ fn write_value(src: &[u8], start: usize, x: Lexed, area: &mut [u8], to: usize)
     requires { start + 1 < 2 ^ 64 }
     ensures { area.new ≡ sets area.old to (said src.now start x).lexeme.value }
 {
-    let value = x.value;
-    match value {
+    match x.value.making {
         Value::Empty => {}
         Value::Interpreted => writing::write_interpreted(src, start + 1, area, to),
         Value::Raw => writing::write_raw(src, start + 1, area, to),
@@ -70,11 +71,11 @@ pub(crate) fn write_area(src: &[u8], start: usize, x: Lexed, area: &mut [u8])
     ensures { area.new ≡ written (to_area (said src.now start x)) area.old }
 {
     let mut to = 0;
-    if x.text_differs {
+    if x.text.differs {
         write_text(src, start, x, area);
-        to = x.text_bytes + 2 * x.strays;
+        to = x.text.bytes + 2 * x.strays;
     }
-    if x.value_differs {
+    if x.value.differs {
         write_value(src, start, x, area, to);
     }
 }

@@ -9,14 +9,14 @@ use position::Line;
 pub fn bit_of(b: bool) -> usize
     ensures { result ≡ bit b }
 {
-    if b { 1 } else { 0 }
+    usize::from(b)
 }
 
 // The number at an index, or 0 after the last.
 fn number_at(n: &[usize], at: usize) -> usize
     ensures { result ≡ get_or n.now at 0 }
 {
-    if at < n.len() { n[at] } else { 0 }
+    n.get(at).copied().unwrap_or(0)
 }
 
 // The state that the first numbers of a slice are; numbers that it lacks are 0.
@@ -45,13 +45,15 @@ pub fn put_state(s: State, n: &mut [usize])
     if n.len() < State::NUMBERS {
         return;
     }
-    n[0] = s.base;
-    n[1] = s.size;
-    n[2] = s.place;
-    n[3] = s.offset;
-    n[4] = bit_of(s.mark);
-    n[5] = s.lines;
-    n[6] = s.errors;
-    n[7] = s.line.number;
-    n[8] = s.line.start;
+    n[..State::NUMBERS].copy_from_slice(&[
+        s.base,
+        s.size,
+        s.place,
+        s.offset,
+        bit_of(s.mark),
+        s.lines,
+        s.errors,
+        s.line.number,
+        s.line.start,
+    ]);
 }

@@ -1,5 +1,5 @@
 // The state of a scan, which goes from call to call by value.
-ghost use Rattle.std.specs.Prelude.{◌≡◌};
+ghost use Rattle.std.specs.Prelude.{◌≡◌, ◌&&◌, leb};
 ghost use Rattle.state.specs.Fits.{file_of, may_be_last, fits_alone, fits_lines, fits};
 ghost use Rattle.state.specs.State.{fresh, advance};
 
@@ -51,7 +51,9 @@ impl State {
         }
     }
 
-    // The state of the same text further on, by all that a scan changes.
+    // The state of the same text further on, by all that a scan changes. These parameters are the
+    // fields that change: a struct of them would be a second state, and docs/PROVED.md names this
+    // function as it is.
     pub fn advanced(
         self,
         place: usize,
@@ -85,71 +87,46 @@ impl State {
         }
     }
 
+    // Is the offset one of the text, and not above the place?
+    fn is_inside(self) -> bool
+        ensures { result ≡ leb self.offset self.place && leb self.offset self.size }
+    {
+        self.offset <= self.place && self.offset <= self.size
+    }
+
     // May the line be the last one? The table tells whether it is.
     fn may_be_last(self) -> bool
         ensures { result ≡ may_be_last self }
     {
-        if self.line.number != self.lines {
-            return false;
-        }
-        self.line.start <= self.offset
+        self.line.number == self.lines && self.line.start <= self.offset
     }
 
     // Does the state go together with itself?
     pub fn fits_alone(self) -> bool
         ensures { result ≡ fits_alone self }
     {
-        if self.offset > self.place {
-            return false;
-        }
-        if self.offset > self.size {
-            return false;
-        }
-        if self.lines < 1 {
-            return false;
-        }
-        if !self.file().in_range() {
-            return false;
-        }
-        if !self.may_be_last() {
-            return false;
-        }
-        if self.lines > 1 {
-            return true;
-        }
-        self.line.start == 0
+        self.is_inside()
+            && self.lines >= 1
+            && self.file().in_range()
+            && self.may_be_last()
+            && (self.lines > 1 || self.line.start == 0)
     }
 
-    // Does it go together with itself and with a table of line starts? The table tells that there is
-    // a line, and that a first line starts at 0.
+    // Does it go together with itself and with a table of line starts? The table tells that there
+    // is a line, and that a first line starts at 0.
     pub fn fits_lines(self, table: &[usize]) -> bool
         ensures { result ≡ fits_lines self table.now }
     {
-        if self.offset > self.place {
-            return false;
-        }
-        if self.offset > self.size {
-            return false;
-        }
-        if !self.file().fits(table) {
-            return false;
-        }
-        if !self.may_be_last() {
-            return false;
-        }
-        table[self.lines - 1] == self.line.start
+        self.is_inside()
+            && self.file().fits(table)
+            && self.may_be_last()
+            && table[self.lines - 1] == self.line.start
     }
 
     // Does it go together with all that a scan is lent?
     pub fn fits(self, src: &[u8], table: &[usize], list: &[usize]) -> bool
         ensures { result ≡ fits self src.now table.now list.now }
     {
-        if !self.fits_lines(table) {
-            return false;
-        }
-        if self.place > src.len() {
-            return false;
-        }
-        self.errors <= errors::room(list)
+        self.fits_lines(table) && self.place <= src.len() && self.errors <= errors::room(list)
     }
 }

@@ -8,8 +8,7 @@ use lib.ListN.{length, get_or, drop}
 use Rattle.utf8.specs.declared.Char.{Char}
 use Rattle.utf8.specs.Chars.{char_at, chars, encode}
 use Rattle.utf8.proofs.First.{chars_end}
-use Rattle.escapes.specs.declared.Given.TheVariants.{Bad}
-use Rattle.escapes.specs.Answers.{Meaning, character, Escape, meaning_of, bytes_of}
+use Rattle.escapes.specs.Answers.{Meaning, character, no_character, Escape, bytes_of}
 use Rattle.escapes.specs.Escape.{escape_of}
 use Rattle.quotes.specs.Body.{Body, escape, body_from, body}
 use Rattle.escapes.proofs.Meanings.{escape_byte}
@@ -46,7 +45,7 @@ module _ (s : List ℕ) (p : ℕ) where
         value_slash : value_at s p ≡ after_escape x.meaning
         value_slash = ap value_of (at_slash 34 (lit< tt) s p h no_quote slash x is)
 
-        pub value_bad : (error : ℕ) → x.meaning ≡ meaning_of (Bad error) → value_at s p ≡ []
+        pub value_bad : (error : ℕ) → x.meaning ≡ no_character error → value_at s p ≡ []
         value_bad error g = value_slash ∙ ap after_escape g
 
         pub value_escape : (code : ℕ) (byte : Bool) → x.meaning ≡ character code byte → value_at s p ≡ bytes_of (character code byte) ++ value_at s (p + (x.len + 1))

@@ -15,15 +15,13 @@ fn write_chars(src: &[u8], at: usize, count: usize, crs: bool, area: &mut [u8], 
     ensures { Writes area.old to (text crs (take count (chars (drop at src.now)))) area.new result }
 {
     let mut p = at;
-    let mut left = count;
     let mut n = to;
-    while 0 < left {
+    for _k in 0..count {
         if src.len() <= p {
             return n;
         }
         let c = utf8::char_at(src, p);
         p += c.width;
-        left -= 1;
         let is_cr = c.code == b'\r' as u32;
         if crs | !is_cr {
             n = put_code(area, n, c.code);

@@ -12,13 +12,7 @@ use numbers::Spelling;
 fn lower_second(k: usize, b: u8) -> u8
     ensures { result ≡ cond (eqb k 1) (lower b) b }
 {
-    if k != 1 {
-        return b;
-    }
-    if b < b'A' {
-        return b;
-    }
-    if b <= b'Z' { b + 32 } else { b }
+    if k == 1 { b.to_ascii_lowercase() } else { b }
 }
 
 // An E as e.
@@ -54,15 +48,11 @@ pub fn write_number(
 )
     ensures { area.new ≡ sets area.old to (number_text spelling (take count (drop at src.now))) }
 {
-    let mut p = at;
-    let mut k = 0;
     let mut n = to;
-    while k < count {
-        if src.len() <= p {
+    for k in 0..count {
+        let Some(&b) = src.get(at + k) else {
             return;
-        }
-        n = put_spelled(spelling, k, src[p], area, n);
-        p += 1;
-        k += 1;
+        };
+        n = put_spelled(spelling, k, b, area, n);
     }
 }

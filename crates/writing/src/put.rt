@@ -1,4 +1,5 @@
-// One byte, and the bytes of one code.
+// One byte, and the bytes of one code. The area and the place are two parameters here: the public
+// functions take them so, and a struct of both would only be made at each call and taken apart.
 ghost use Rattle.std.specs.Prelude.{[], ◌∷◌};
 ghost use Rattle.utf8.specs.Chars.{encode};
 ghost use Rattle.writing.specs.Writes.{Writes};
@@ -19,12 +20,9 @@ pub(crate) fn put(area: &mut [u8], to: usize, b: u8) -> usize
 pub(crate) fn put_code(area: &mut [u8], to: usize, code: u32) -> usize
     ensures { Writes area.old to (encode code) area.new result }
 {
-    let len = encoding::encoded_len(code);
     let mut n = to;
-    let mut k = 0;
-    while k < len {
+    for k in 0..encoding::encoded_len(code) {
         n = put(area, n, encoding::encoded_byte(code, k));
-        k += 1;
     }
     n
 }

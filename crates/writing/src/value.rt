@@ -13,14 +13,14 @@ use crate::put::{put, put_code};
 use escapes::Given;
 
 // Writes what an escape gives, and answers the place after it.
-fn put_given(code: u32, byte: bool, area: &mut [u8], to: usize) -> usize
-    requires { byte ≡ true → code ≤ 255 }
-    ensures { Writes area.old to (bytes_of (character code byte)) area.new result }
+fn put_given(given: Given, area: &mut [u8], to: usize) -> usize
+    requires { given.byte ≡ true → given.code ≤ 255 }
+    ensures { Writes area.old to (bytes_of (character given.code given.byte)) area.new result }
 {
-    if byte {
-        put(area, to, code as u8)
+    if given.byte {
+        put(area, to, given.code as u8)
     } else {
-        put_code(area, to, code)
+        put_code(area, to, given.code)
     }
 }
 
@@ -28,6 +28,7 @@ fn put_given(code: u32, byte: bool, area: &mut [u8], to: usize) -> usize
 pub fn write_interpreted(src: &[u8], at: usize, area: &mut [u8], to: usize)
     ensures { area.new ≡ sets area.old to (body double_quote (chars (drop at src.now))).value }
 {
+    // An index loop: a step goes over an escape or a character, so no `for` fits.
     let mut p = at;
     let mut n = to;
     while p < src.len() {
@@ -40,11 +41,10 @@ pub fn write_interpreted(src: &[u8], at: usize, area: &mut [u8], to: usize)
         }
         if b == b'\\' {
             let e = escapes::escape_at(src, p + 1, b'"');
-            let given = e.given;
-            let Given::Value { code, byte } = given else {
+            let Ok(given) = e.given else {
                 return;
             };
-            n = put_given(code, byte, area, n);
+            n = put_given(given, area, n);
             p += e.len + 1;
         } else {
             let c = utf8::char_at(src, p);

@@ -1,12 +1,16 @@
 -- `part::shown` meets its contract: the part says which of the two buffers it is of.
-use mathlib.Core.Path.{◌∙◌}
-use Rattle.parts.specs.Shown.{shown_of}
+use mathlib.Core.Path.{ap, ◌∙◌}
+use Rattle.parts.specs.Shown.{shown_as, shown_of}
+use Rattle.parts.proofs.Gets.{shown_got}
 use Rattle.parts.proofs.part.shown.Goals as goal
+use Rattle.parts.proofs.part.shown.Goals.{then-part, else-part}
 
-pub returns-then-part : goal.returns-then-part
+pub returns : goal.returns
 unfolding shown_of
-returns-then-part c = c.part_of.ensures ∙ rw c.if-part.true
-
-pub returns-else-part : goal.returns-else-part
-unfolding shown_of
-returns-else-part c = c.part_of-else-part.ensures ∙ rw c.if-part.false
+returns c =
+    let a = c.args in
+    ap shown_as c.ok_or.ensures.value
+    ∙ elim c.if-part.branch [
+      | then-part w ↦ shown_got a.area.now a.part c.get.result (rw w.buffer-is at c.get.ensures.lookup) ∙ rw w.if-part.true
+      | else-part w ↦ shown_got a.src.now a.part c.get.result (rw w.buffer-is at c.get.ensures.lookup) ∙ rw w.if-part.false
+    ]

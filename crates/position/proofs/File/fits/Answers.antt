@@ -1,34 +1,15 @@
 -- `File::fits` meets its contract: each test of the code is one of the definition's.
-use mathlib.Core.Path.{sym, ◌∙◌}
-use native.Mathlib.Omega.{arith}
-use borrow.Author.Tests.{le-leb, lt-leb}
+use Rattle.std.proofs.Common.{arith}
+use Rattle.std.proofs.lemmas.Bool.Decides.{nat_tests}
 use Rattle.position.specs.Place.{fitting}
 use Rattle.position.proofs.File.fits.Goals as goal
+use Rattle.position.proofs.File.fits.Goals.{then-in_range, else-in_range, then-self-gt0, else-self-gt0}
 
-pub returns-then-not-in_range : goal.returns-then-not-in_range
+pub returns-then-self-table : goal.returns-then-self-table
 unfolding fitting
-returns-then-not-in_range c = rw (sym c.in_range.ensures ∙ c.if-not-in_range.true)
+returns-then-self-table c = grind (arith, nat_tests)
 
-pub returns-then-lines-eq0 : goal.returns-then-lines-eq0
+pub returns-else-self-table : goal.returns-else-self-table
 unfolding fitting
-returns-then-lines-eq0 c = rw (sym c.in_range.ensures ∙ c.if-not-in_range.false, c.if-lines-eq0.true)
-
-pub returns-then-lines-table : goal.returns-then-lines-table
-unfolding fitting
-returns-then-lines-table c =
-    let lines = c.args.self.lines in
-    rw (
-      sym c.in_range.ensures ∙ c.if-not-in_range.false,
-      le-leb 1 lines (omega arith),
-      lt-leb _ _ c.if-lines-table.true,
-    )
-
-pub returns : goal.returns
-unfolding fitting
-returns c =
-    let lines = c.args.self.lines in
-    rw (
-      sym c.in_range.ensures ∙ c.if-not-in_range.false,
-      le-leb 1 lines (omega arith),
-      le-leb _ _ c.if-lines-table.false,
-    )
+returns-else-self-table c =
+    elim c.if-self-gt0.branch [ then-self-gt0 w ↦ grind (arith, nat_tests) | else-self-gt0 w ↦ elim c.if-in_range.branch [ then-in_range v ↦ grind (arith, nat_tests) | else-in_range v ↦ grind (arith, nat_tests) ] ]

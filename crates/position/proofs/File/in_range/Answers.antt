@@ -5,14 +5,14 @@ use Rattle.position.specs.Place.{max_position, in_range}
 use Rattle.basics.proofs.Tests.{same_le}
 use Rattle.position.proofs.File.in_range.Goals as goal
 
-pub returns-then-base-le-MAX_POSITION : goal.returns-then-base-le-MAX_POSITION
+pub returns-then-self-le-MAX_POSITION : goal.returns-then-self-le-MAX_POSITION
 unfolding in_range
-returns-then-base-le-MAX_POSITION c =
+returns-then-self-le-MAX_POSITION c =
     let f = c.args.self in
     same_le f.size (max_position - f.base) (f.base + f.size) max_position (λ h. omega arith) (λ h. omega arith)
 
-pub returns-else-base-le-MAX_POSITION : goal.returns-else-base-le-MAX_POSITION
+pub returns-else-self-le-MAX_POSITION : goal.returns-else-self-le-MAX_POSITION
 unfolding in_range
-returns-else-base-le-MAX_POSITION c =
+returns-else-self-le-MAX_POSITION c =
     let f = c.args.self in
     same_le f.base max_position (f.base + f.size) max_position (λ h. omega arith) (λ h. omega arith)

@@ -15,7 +15,7 @@ use Rattle.scanner.proofs.quick.record_ends.Goals.{Joined-blanks-gt0, else-blank
 abbrev starts : Joined-blanks-gt0 → List ℕ
 starts c =
     let a = c.args in
-    starts_from a.src.now a.state (a.blanks.end - a.state.place)
+    starts_from a.src.now a.state (a.pass.blanks.end - a.state.place)
 
 -- past the first test they are written
 blanks : (c : Joined-blanks-gt0)
@@ -28,18 +28,18 @@ blanks_length c = ap length (blanks c) ∙ simp length-sets
 
 pub bounds-table-state : goal.bounds-table-state
 bounds-table-state c =
-    omega (arith, blanks_length (goal.at.bounds-table-state c).Joined-blanks-gt0, c.requires.2, c.if-x-gt0.true)
+    omega (arith, blanks_length (goal.at.bounds-table-state c).Joined-blanks-gt0, c.requires.2, c.if-pass-gt0.true)
 
-pub shape_of-table-then-x-gt0 : goal.shape_of-table-then-x-gt0
-shape_of-table-then-x-gt0 c = simp length-set (blanks_length (goal.at.shape_of-table-then-x-gt0 c).Joined-blanks-gt0)
+pub shape_of-table-then-pass-gt0 : goal.shape_of-table-then-pass-gt0
+shape_of-table-then-pass-gt0 c = simp length-set (blanks_length (goal.at.shape_of-table-then-pass-gt0 c).Joined-blanks-gt0)
 
-pub returns-then-x-gt0 : goal.returns-then-x-gt0
-returns-then-x-gt0 c =
-    end_one c.args.table.now c.args.state.lines (starts (goal.at.returns-then-x-gt0 c).Joined-blanks-gt0) (blanks (goal.at.returns-then-x-gt0 c).Joined-blanks-gt0) c.args.x c.args.offset c.requires.1 c.if-x-gt0.true
+pub returns-then-pass-gt0 : goal.returns-then-pass-gt0
+returns-then-pass-gt0 c =
+    end_one c.args.table.now c.args.state.lines (starts (goal.at.returns-then-pass-gt0 c).Joined-blanks-gt0) (blanks (goal.at.returns-then-pass-gt0 c).Joined-blanks-gt0) c.args.pass.token c.args.offset c.requires.1 c.if-pass-gt0.true
 
-pub shape_of-table-else-x-gt0 : goal.shape_of-table-else-x-gt0
-shape_of-table-else-x-gt0 c = blanks_length (goal.at.shape_of-table-else-x-gt0 c).Joined-blanks-gt0
+pub shape_of-table-else-pass-gt0 : goal.shape_of-table-else-pass-gt0
+shape_of-table-else-pass-gt0 c = blanks_length (goal.at.shape_of-table-else-pass-gt0 c).Joined-blanks-gt0
 
-pub returns-else-x-gt0 : goal.returns-else-x-gt0
-returns-else-x-gt0 c =
-    end_none c.args.table.now c.args.state.lines (starts (goal.at.returns-else-x-gt0 c).Joined-blanks-gt0) (blanks (goal.at.returns-else-x-gt0 c).Joined-blanks-gt0) c.args.x c.args.offset c.if-x-gt0.false
+pub returns-else-pass-gt0 : goal.returns-else-pass-gt0
+returns-else-pass-gt0 c =
+    end_none c.args.table.now c.args.state.lines (starts (goal.at.returns-else-pass-gt0 c).Joined-blanks-gt0) (blanks (goal.at.returns-else-pass-gt0 c).Joined-blanks-gt0) c.args.pass.token c.args.offset c.if-pass-gt0.false

@@ -5,7 +5,7 @@ use mathlib.Core.Bool.{true}
 use native.Mathlib.Omega.{arith}
 use lib.ListN.{length}
 use Rattle.scanner.specs.Quick.{ends_in_feed, is_quick}
-use Rattle.scanner.proofs.Tries.{tries_none, lines_fit, feeds_within, offset_fits, feeds_fit, quick_plain, tries_on_line, quick_ready, tries_done}
+use Rattle.scanner.proofs.Tries.{lines_fit, feeds_within, offset_fits, feeds_fit, quick_plain, tries_on_line, quick_ready, tries_done}
 use Rattle.scanner.proofs.quick.try_plain.Goals as goal
 use Rattle.scanner.proofs.quick.try_plain.Goals.{Else-not-ends_in_feed, Else-not-is_quick, Start}
 
@@ -16,10 +16,7 @@ short s = omega (arith, s.well_formed.0.1)
 pub overflow_add-offset : goal.overflow_add-offset
 overflow_add-offset c = record { fits = offset_fits _ _ _ _ _ _ _ c.requires (short (goal.at.overflow_add-offset c).Start) }
 
-pub returns-then-not-is_quick : goal.returns-then-not-is_quick
-returns-then-not-is_quick c = tries_none _ _ _ _ c.not_done.ensures
-
-quick : (c : Else-not-is_quick) → let a = c.args in is_quick a.state a.x (a.state.offset + a.read) ≡ true
+quick : (c : Else-not-is_quick) → let a = c.args in is_quick a.state a.pass.token (a.state.offset + a.pass.chars) ≡ true
 quick c = sym c.is_quick.ensures ∙ c.if-not-is_quick.false
 
 pub overflow_add-feeds : goal.overflow_add-feeds
@@ -36,17 +33,11 @@ returns-then-feeds-eq0 c =
 pub ends_in_feed-requires : goal.ends_in_feed-requires
 ends_in_feed-requires c = feeds_within _ _ _ _ _ _ _ c.requires
 
-pub returns-then-not-ends_in_feed : goal.returns-then-not-ends_in_feed
-returns-then-not-ends_in_feed c = tries_none _ _ _ _ c.not_done-then-not-ends_in_feed.ensures
-
-ends : (c : Else-not-ends_in_feed) → let a = c.args in ends_in_feed a.src.now a.x ≡ true
+ends : (c : Else-not-ends_in_feed) → let a = c.args in ends_in_feed a.src.now a.pass.token ≡ true
 ends c = sym c.ends_in_feed.ensures ∙ c.if-not-ends_in_feed.false
 
 pub overflow_sub-table : goal.overflow_sub-table
 overflow_sub-table c = lines_fit _ _ _ _ _ _ _ c.requires
-
-pub returns-then-table-state : goal.returns-then-table-state
-returns-then-table-state c = tries_none _ _ _ _ c.not_done-then-table-state.ensures
 
 pub give_quick-requires : goal.give_quick-requires
 give_quick-requires c =

@@ -10,6 +10,6 @@ position_at-requires c =
 pub returns : goal.returns
 returns c =
     let a = c.args in
-    commit_is a.src.now a.state a.start a.x a.read a.starts a.table.now a.list.now a.area.now
+    commit_is a.src.now a.state a.pass.blanks.end a.pass.token a.pass.chars a.starts a.table.now a.list.now a.area.now
     c.write_token-after.ensures.0
-    (rw (c.gave.ensures, c.token_of-token.ensures, c.position_at.ensures, c.write_token-after.ensures.1))
+    (rw (c.token_of-token.ensures, c.position_at.ensures, c.write_token-after.ensures.1))

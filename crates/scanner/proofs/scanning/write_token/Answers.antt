@@ -5,7 +5,7 @@ use Rattle.scanner.proofs.scanning.write_token.Goals as goal
 
 pub state_after-after-requires : goal.state_after-after-requires
 state_after-after-requires c =
-    state_ready _ _ _ _ _ _ _ _ _ c.requires c.record_starts.ensures (omega (arith, c.well_formed.1.1.1.1.1.1.1.0.1))
+    state_ready _ _ _ _ _ _ _ _ _ c.requires c.record_starts.ensures (omega (arith, c.well_formed.1.1.1.1.1.0.1))
 
 pub record_error-requires : goal.record_error-requires
 record_error-requires c =
@@ -14,7 +14,7 @@ record_error-requires c =
 pub returns : goal.returns
 returns c =
     let s = c.args in (
-      left_is s.src.now s.state s.start s.x s.read s.starts s.table.now s.list.now s.area.now
+      left_is s.src.now s.state s.pass.blanks.end s.pass.token s.pass.chars s.starts s.table.now s.list.now s.area.now
           c.record_starts.ensures c.state_after-after.ensures c.record_error.ensures c.write_area.ensures,
       c.state_after-after.ensures,
     )

@@ -11,7 +11,7 @@ use Rattle.scanner.proofs.write.write_area.Goals as goal
 use Rattle.scanner.proofs.write.write_area.Goals.{Joined-x, Then-x, else-x, then-x}
 
 -- the text fits the area
-wide : (c : Then-x) → let a = c.args in a.x.text_bytes + 2 * a.x.strays ≤ length a.area.now
+wide : (c : Then-x) → let a = c.args in a.x.text.bytes + 2 * a.x.strays ≤ length a.area.now
 wide c = let h = rw c.if-x.true at c.requires.2 in omega (arith, h)
 
 pub overflow_mul-to : goal.overflow_mul-to
@@ -22,7 +22,7 @@ overflow_add-to c = omega (arith, wide (goal.at.overflow_add-to c).Then-x, c.wel
 
 -- what stands in the area before the value
 texted : (c : Joined-x)
-    → let a = c.args in TextWritten a.area.now (said a.src.now a.start a.x).lexeme.text a.x.text_differs c.if-x.area c.if-x.to
+    → let a = c.args in TextWritten a.area.now (said a.src.now a.start a.x).lexeme.text a.x.text.differs c.if-x.area c.if-x.to
 unfolding said
 texted c =
     elim c.if-x.branch [ then-x w ↦ text_written _ _ w.if-x.true (w.area-is ∙ w.write_text.ensures) (w.to-is ∙ sym (rw w.if-x.true at c.requires.4)) | else-x w ↦ text_none _ _ w.if-x.false w.area-is w.to-is ]
@@ -31,7 +31,7 @@ texted c =
 kept : (c : Joined-x) → length c.if-x.area ≡ length c.args.area.now
 kept c =
     let a = c.args in
-    text_keeps a.area.now (said a.src.now a.start a.x).lexeme.text a.x.text_differs (texted c)
+    text_keeps a.area.now (said a.src.now a.start a.x).lexeme.text a.x.text.differs (texted c)
 
 -- both fit
 room : (c : Joined-x) → let a = c.args in length (to_area (said a.src.now a.start a.x)) ≤ length a.area.now

@@ -1,52 +1,54 @@
-use Prim.Native.Nat.{◌+◌, ◌-◌}
-use mathlib.Core.Path.{refl, ap, ◌∙◌}
+use Prim.Native.Nat.{ℕ, ◌+◌, ◌-◌, ◌≤◌, ◌<◌}
+use mathlib.Core.Path.{◌≡◌, ap, ◌∙◌}
 use mathlib.Core.List.{◌++◌, append_assoc}
 use native.Mathlib.Omega.{arith}
-use borrow.Author.Rules.{rules}
 use lib.Seq.{sets}
 use Rattle.utf8.specs.Chars.{encode}
 use Rattle.utf8.proofs.First.{there_fits}
 use Rattle.writing.proofs.Areas.{left_as_with_rest}
 use Rattle.writing.proofs.Texts.{text_at, text_none, text_end, text_kept, text_dropped}
 use Rattle.writing.proofs.chars.write_chars.Goals as goal
+use Rattle.writing.proofs.chars.write_chars.Goals.{then-crs-is_cr, else-crs-is_cr}
 
-pub loop-left-init : goal.loop-left-init
-loop-left-init c = (refl, λ rest. refl)
-
-pub shape_of-area-then-src-p : goal.shape_of-area-then-src-p
-shape_of-area-then-src-p c = c.loop-left.invariant.0
+pub loop-k-init : goal.loop-k-init
+loop-k-init c =
+    let a = c.args in
+    let all : a.count ≡ a.count - 0 = omega arith in
+    λ rest. ap (λ (n : ℕ). sets a.area.now a.to (text_at a.crs n a.src.now a.at ++ rest)) all
 
 pub returns-then-src-p : goal.returns-then-src-p
 returns-then-src-p c =
     let a = c.args in
-    left_as_with_rest c.loop-left.area c.loop-left.n (text_end a.crs c.loop-left.left a.src.now c.loop-left.p c.if-src-p.true) c.loop-left.invariant.1
+    left_as_with_rest c.loop-k.area c.loop-k.n (text_end a.crs (a.count - c.loop-k._k) a.src.now c.loop-k.p c.if-src-p.true) c.loop-k.invariant
 
 pub overflow_add-p : goal.overflow_add-p
 overflow_add-p c =
     let x = c.char_at-c in
     omega (arith, there_fits _ _ x.result c.if-src-p.false x.ensures, c.well_formed.0.1)
 
-pub overflow_sub-left : goal.overflow_sub-left
-overflow_sub-left c = c.loop-left-test.true
+-- one character less is left
+less : (count k : ℕ) → count - k - 1 ≡ count - (k + 1)
+less count k = omega arith
 
-pub loop-left-preserved-then-crs-is_cr : goal.loop-left-preserved-then-crs-is_cr
-loop-left-preserved-then-crs-is_cr c =
-    let x = c.char_at-c in
+pub loop-k-preserved : goal.loop-k-preserved
+loop-k-preserved c =
     let a = c.args in
-    let e = text_kept a.crs c.loop-left.left a.src.now c.loop-left.p x.result c.loop-left-test.true c.if-src-p.false x.ensures c.if-crs-is_cr.true in
-    let after = text_at a.crs (c.loop-left.left - 1) a.src.now (c.loop-left.p + x.result.width) in
-    (search rules, λ rest. left_as_with_rest c.loop-left.area c.loop-left.n e c.loop-left.invariant.1 rest ∙ ap (sets c.loop-left.area c.loop-left.n) (append_assoc (encode x.result.code) after rest) ∙ c.put_code-n.ensures (after ++ rest))
-
-pub loop-left-preserved : goal.loop-left-preserved
-loop-left-preserved c =
-    let a = c.args in
+    let l = c.loop-k in
     let x = c.char_at-c in
-    (c.loop-left.invariant.0, left_as_with_rest c.loop-left.area c.loop-left.n (text_dropped a.crs c.loop-left.left a.src.now c.loop-left.p x.result c.loop-left-test.true c.if-src-p.false x.ensures c.if-crs-is_cr.false) c.loop-left.invariant.1)
-
-pub shape_of-area : goal.shape_of-area
-shape_of-area c = c.loop-left.invariant.0
+    let some : 0 < a.count - l._k = omega arith in
+    elim c.if-crs-is_cr.branch [
+      | then-crs-is_cr w ↦
+          let e = text_kept a.crs (a.count - l._k) a.src.now l.p x.result some c.if-src-p.false x.ensures w.if-crs-is_cr.true in
+          let after = text_at a.crs (a.count - (l._k + 1)) a.src.now (l.p + x.result.width) in
+          rw (w.area-is, w.n-is)
+          (λ rest. left_as_with_rest l.area l.n (rw less at e) l.invariant rest ∙ ap (sets l.area l.n) (append_assoc (encode x.result.code) after rest) ∙ w.put_code-n.ensures (after ++ rest))
+      | else-crs-is_cr w ↦
+          let e = text_dropped a.crs (a.count - l._k) a.src.now l.p x.result some c.if-src-p.false x.ensures w.if-crs-is_cr.false in
+          rw (w.area-is, w.n-is) (left_as_with_rest l.area l.n (rw less at e) l.invariant)
+    ]
 
 pub returns : goal.returns
 returns c =
     let a = c.args in
-    left_as_with_rest c.loop-left.area c.loop-left.n (text_none a.crs c.loop-left.left a.src.now c.loop-left.p c.loop-left-test.false) c.loop-left.invariant.1
+    let none : a.count - c.loop-k._k ≤ 0 = omega arith in
+    left_as_with_rest c.loop-k.area c.loop-k.n (text_none a.crs (a.count - c.loop-k._k) a.src.now c.loop-k.p none) c.loop-k.invariant

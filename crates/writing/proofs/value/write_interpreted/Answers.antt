@@ -4,7 +4,7 @@ use native.Mathlib.Omega.{arith}
 use lib.ListN.{length}
 use Rattle.utf8.proofs.First.{there_fits, there_least}
 use Rattle.escapes.specs.Answers.{meaning_of, says}
-use Rattle.quotes.proofs.Bounds.{fit64, right_part, less, one_le, next}
+use Rattle.quotes.proofs.Bounds.{fit64, right_part, less}
 use Rattle.quotes.proofs.Places.{escape_fits}
 use Rattle.writing.proofs.Areas.{left_as, finished}
 use Rattle.writing.proofs.Values.{given_byte, value_end, value_quote, value_lf, value_bad, value_escape, value_plain}
@@ -27,37 +27,25 @@ char_least : (c : After-char_at-c) → 1 ≤ c.char_at-c.result.width
 char_least c = there_least _ _ c.char_at-c.result c.loop-p-test.true c.char_at-c.ensures
 
 pub loop-p-init : goal.loop-p-init
-loop-p-init c = (refl, refl)
-
-pub shape_of-area-then-b-eq34 : goal.shape_of-area-then-b-eq34
-shape_of-area-then-b-eq34 c = c.loop-p.invariant.0
+loop-p-init c = refl
 
 pub returns-then-b-eq34 : goal.returns-then-b-eq34
 returns-then-b-eq34 c =
-    finished c.loop-p.area c.loop-p.n c.loop-p.invariant.1 (value_quote _ c.loop-p.p c.loop-p-test.true c.if-b-eq34.true)
-
-pub shape_of-area-then-b-eq10 : goal.shape_of-area-then-b-eq10
-shape_of-area-then-b-eq10 c = c.loop-p.invariant.0
+    finished c.loop-p.area c.loop-p.n c.loop-p.invariant (value_quote _ c.loop-p.p c.loop-p-test.true c.if-b-eq34.true)
 
 pub returns-then-b-eq10 : goal.returns-then-b-eq10
 returns-then-b-eq10 c =
-    finished c.loop-p.area c.loop-p.n c.loop-p.invariant.1 (value_lf _ c.loop-p.p c.loop-p-test.true c.if-b-eq34.false c.if-b-eq10.true)
-
-pub overflow_add-p : goal.overflow_add-p
-overflow_add-p c = record { fits = fit64 _ _ (next _ _ c.loop-p-test.true) (short (goal.at.overflow_add-p c).At-loop-p) }
-
-pub shape_of-area-in_default : goal.shape_of-area-in_default
-shape_of-area-in_default c = c.loop-p.invariant.0
+    finished c.loop-p.area c.loop-p.n c.loop-p.invariant (value_lf _ c.loop-p.p c.loop-p-test.true c.if-b-eq34.false c.if-b-eq10.true)
 
 pub returns-in_default : goal.returns-in_default
 returns-in_default c =
     let x = c.escape_at-e in
-    finished c.loop-p.area c.loop-p.n c.loop-p.invariant.1 (value_bad _ c.loop-p.p c.loop-p-test.true c.if-b-eq34.false c.if-b-eq92.true (says x.result) x.ensures _ (ap meaning_of c.in_default.is))
+    finished c.loop-p.area c.loop-p.n c.loop-p.invariant (value_bad _ c.loop-p.p c.loop-p-test.true c.if-b-eq34.false c.if-b-eq92.true (says x.result) x.ensures _ (ap meaning_of c.in_default.is))
 
 pub put_given-n-requires : goal.put_given-n-requires
 put_given-n-requires c =
     let x = c.escape_at-e in
-    given_byte _ (says x.result) _ _ x.ensures (ap meaning_of c.in-Value.is)
+    given_byte _ (says x.result) _ _ x.ensures (ap meaning_of c.in-Ok.is)
 
 pub overflow_add-p-then-b-eq92 : goal.overflow_add-p-then-b-eq92
 overflow_add-p-then-b-eq92 c =
@@ -67,17 +55,11 @@ pub overflow_add-p-then-b-eq92-2 : goal.overflow_add-p-then-b-eq92-2
 overflow_add-p-then-b-eq92-2 c =
     record { fits = fit64 _ _ (escape_within (goal.at.overflow_add-p-then-b-eq92-2 c).After-escape_at-e) (short (goal.at.overflow_add-p-then-b-eq92-2 c).At-loop-p) }
 
-pub loop-p-smaller-then-b-eq92 : goal.loop-p-smaller-then-b-eq92
-loop-p-smaller-then-b-eq92 c =
-    less c.loop-p.p (c.escape_at-e.result.len + 1) _ (escape_within (goal.at.loop-p-smaller-then-b-eq92 c).After-escape_at-e) (one_le _)
-
 pub loop-p-preserved-then-b-eq92 : goal.loop-p-preserved-then-b-eq92
 loop-p-preserved-then-b-eq92 c =
     let put = c.put_given-n in
-    let x = c.escape_at-e in (
-      put.auto.area ∙ c.loop-p.invariant.0,
-      left_as c.loop-p.area c.loop-p.n c.loop-p.invariant.1 (value_escape _ c.loop-p.p c.loop-p-test.true c.if-b-eq34.false c.if-b-eq92.true (says x.result) x.ensures _ _ (ap meaning_of c.in-Value.is)) ∙ put.ensures _,
-    )
+    let x = c.escape_at-e in
+    left_as c.loop-p.area c.loop-p.n c.loop-p.invariant (value_escape _ c.loop-p.p c.loop-p-test.true c.if-b-eq34.false c.if-b-eq92.true (says x.result) x.ensures _ _ (ap meaning_of c.in-Ok.is)) ∙ put.ensures _
 
 pub overflow_add-p-else-b-eq92 : goal.overflow_add-p-else-b-eq92
 overflow_add-p-else-b-eq92 c =
@@ -90,14 +72,9 @@ loop-p-smaller c =
 pub loop-p-preserved : goal.loop-p-preserved
 loop-p-preserved c =
     let put = c.put_code-n in
-    let x = c.char_at-c in (
-      put.auto.area ∙ c.loop-p.invariant.0,
-      left_as c.loop-p.area c.loop-p.n c.loop-p.invariant.1 (value_plain _ c.loop-p.p c.loop-p-test.true c.if-b-eq34.false c.if-b-eq10.false c.if-b-eq92.false x.result x.ensures) ∙ put.ensures _,
-    )
-
-pub shape_of-area : goal.shape_of-area
-shape_of-area c = c.loop-p.invariant.0
+    let x = c.char_at-c in
+    left_as c.loop-p.area c.loop-p.n c.loop-p.invariant (value_plain _ c.loop-p.p c.loop-p-test.true c.if-b-eq34.false c.if-b-eq10.false c.if-b-eq92.false x.result x.ensures) ∙ put.ensures _
 
 pub returns : goal.returns
 returns c =
-    finished c.loop-p.area c.loop-p.n c.loop-p.invariant.1 (value_end _ c.loop-p.p c.loop-p-test.false)
+    finished c.loop-p.area c.loop-p.n c.loop-p.invariant (value_end _ c.loop-p.p c.loop-p-test.false)
