@@ -1,60 +1,124 @@
 // What calls are made on: the registers and the buffers.
-ghost use Rattle.io.specs.Counts.{IsPrefixLen};
-
 use crate::registers::Registers;
+use crate::show::Output;
+use crate::{places, scans, texts};
+use scanner::State;
+use std::iter;
 
 #[derive(Clone, Copy)]
 pub(crate) struct Machine {
     pub(crate) registers: Registers,
-    pub(crate) table: [usize; 8],
-    pub(crate) list: [usize; 16],
-    pub(crate) area: [u8; 32],
-}
-
-// The number, or the length where that is less.
-pub(crate) fn of_bytes(n: usize, bytes: &[u8]) -> usize
-    ensures { IsPrefixLen result bytes.now }
-{
-    if n < bytes.len() { n } else { bytes.len() }
-}
-
-pub(crate) fn of_numbers(n: usize, numbers: &[usize]) -> usize
-    ensures { IsPrefixLen result numbers.now }
-{
-    if n < numbers.len() { n } else { numbers.len() }
+    table: [usize; 8],
+    list: [usize; 16],
+    area: [u8; 32],
 }
 
 // A sum in which every number counts by its place, modulo 2^64.
 fn add(total: usize, n: usize) -> usize {
-    let double = std::num::wrapping_add_usize(total, total);
-    std::num::wrapping_add_usize(double, std::num::wrapping_add_usize(total, n))
+    total.wrapping_mul(3).wrapping_add(n)
 }
 
-fn add_byte(total: usize, b: u8) -> usize {
-    add(total, b as usize)
-}
+impl Machine {
+    pub(crate) const EMPTY: Machine = Machine {
+        registers: Registers::FRESH,
+        table: [0; 8],
+        list: [0; 16],
+        area: [0; 32],
+    };
 
-fn sum(first: usize, numbers: &[usize]) -> usize {
-    let mut total = first;
-    for i in 0..numbers.len() {
-        total = add(total, numbers[i]);
+    // The sum of all that a call can change. Ten zeros stand for what lies between the state and
+    // the buffers and no call changes. No `==` of two machines: a case prints ` changed` by this
+    // sum, which can be the same after a change.
+    fn sum(&self) -> usize {
+        let state = self
+            .registers
+            .state
+            .iter()
+            .copied()
+            .chain(iter::repeat_n(0, 10));
+        let numbers = self.table.iter().chain(self.list.iter()).copied();
+        let bytes = self.area.iter().map(|b| usize::from(*b));
+        state.chain(numbers).chain(bytes).fold(0, add)
     }
-    total
-}
 
-fn sum_bytes(first: usize, bytes: &[u8]) -> usize {
-    let mut total = first;
-    for i in 0..bytes.len() {
-        total = add_byte(total, bytes[i]);
+    // Makes a call, lends it as much of each buffer as the registers say, and keeps the state after
+    // it.
+    fn lend(&mut self, source: &[u8], letter: u8, function: u8, out: Output) {
+        let registers = self.registers;
+        let mut table = self.table;
+        let mut list = self.list;
+        let mut area = self.area;
+        let lent = Lent {
+            source,
+            table: &mut table[..registers.table.min(8)],
+            list: &mut list[..registers.list.min(16)],
+            area: &mut area[..registers.area.min(32)],
+        };
+        let state = call_lent(letter, function, registers, lent, out);
+        scanner::put_state(state, &mut self.registers.state);
+        self.table = table;
+        self.list = list;
+        self.area = area;
     }
-    total
+
+    // After the answer comes `changed` if the call changed the state or a buffer.
+    fn lend_and_compare(&mut self, source: &[u8], letter: u8, function: u8, out: Output) {
+        let before = self.sum();
+        self.lend(source, letter, function, out);
+        if self.sum() != before {
+            out.bytes(b" changed");
+        }
+    }
+
+    // T: start i of the table is n.
+    fn set_start(&mut self) {
+        let Registers { n, i, .. } = self.registers;
+        if let Some(start) = self.table.get_mut(i) {
+            *start = n;
+        }
+    }
+
+    // Makes a call by its two letters. They stay letters, as the cases have them; no closures fit,
+    // since each call takes other arguments and shows another type.
+    pub(crate) fn call(&mut self, source: &[u8], letter: u8, function: u8, out: Output) {
+        let Registers { n, i, .. } = self.registers;
+        match letter {
+            b'U' => texts::utf8(source, function, n, i, out),
+            b'K' => texts::kinds(source, function, n, out),
+            b'T' => self.set_start(),
+            _ => self.lend_and_compare(source, letter, function, out),
+        }
+    }
 }
 
-// The sum of all that a call can change.
-pub(crate) fn sum_all(machine: Machine) -> usize {
-    let registers = machine.registers;
-    let table = machine.table;
-    let list = machine.list;
-    let area = machine.area;
-    sum_bytes(sum(sum(sum(0, &registers), &table), &list), &area)
+// What a call is lent.
+#[derive(Drop)]
+pub(crate) struct Lent<'a> {
+    pub(crate) source: &'a [u8],
+    pub(crate) table: &'a mut [usize],
+    pub(crate) list: &'a mut [usize],
+    pub(crate) area: &'a mut [u8],
+}
+
+// A call that is lent buffers; gives the state after it.
+fn call_lent(letter: u8, function: u8, registers: Registers, lent: Lent<'_>, out: Output) -> State {
+    let Registers { n, i, j, .. } = registers;
+    let Lent {
+        source,
+        table,
+        list,
+        area,
+    } = lent;
+    let state = scanner::state_in(&registers.state);
+    match letter {
+        b'P' => places::position(function, state, table, n, i, out),
+        b'E' => places::errors(function, state, list, n, out),
+        b'X' => scans::part(function, source, area, i, j, out),
+        _ => match function {
+            b'o' => return scans::open(source, state, table, out),
+            b'c' => return scans::scan(source, state, table, list, area, out),
+            _ => scans::ask(function, state, table, list, n, out),
+        },
+    }
+    state
 }

@@ -10,7 +10,8 @@
 //   X parts of the source and of the area, T the table
 #![tactic(auto)]
 
-mod calls;
+ghost use Rattle.std.specs.Prelude.{◌≤◌, length};
+
 mod cases;
 mod machine;
 mod places;
@@ -19,7 +20,9 @@ mod scans;
 mod show;
 mod texts;
 
-use machine::Machine;
+use cases::Reader;
+use show::Output;
+use std::io::Read;
 
 // The byte that a byte of the cases stands for.
 fn meant(byte: u8) -> u8 {
@@ -37,30 +40,36 @@ fn meant(byte: u8) -> u8 {
 
 // Puts the bytes that are meant in place of those that stand for them.
 fn replace_bytes(cases: &mut [u8]) {
-    for at in 0..cases.len() {
-        cases[at] = meant(cases[at]);
+    for byte in cases {
+        *byte = meant(*byte);
     }
 }
 
-fn read_cases(cases: &[u8]) {
-    let mut machine = Machine {
-        registers: [0; 19],
-        table: [0; 8],
-        list: [0; 16],
-        area: [0; 32],
-    };
-    for at in 0..cases.len() {
-        machine = calls::read(machine, cases, at, cases[at]);
+// Reads until the buffer is full, the input ends or a read fails; gives the number of bytes.
+fn read_full(input: &mut impl Read, buffer: &mut [u8]) -> usize
+    ensures { result ≤ length buffer.new }
+{
+    let mut read = 0;
+    // An index loop: a step goes over as many bytes as one read gives, so no `for` fits.
+    while read < buffer.len() {
+        match input.read(&mut buffer[read..]) {
+            Ok(0) | Err(_) => break,
+            Ok(n) => read += n,
+        }
     }
+    read
 }
 
-fn run(cases: &mut [u8]) {
+fn run(cases: &mut [u8], out: Output) {
     replace_bytes(cases);
-    read_cases(cases);
+    let mut reader = Reader::new(out);
+    for (at, byte) in cases.iter().enumerate() {
+        reader.read(cases, at, *byte);
+    }
 }
 
-fn main() {
+fn main(rt: HostRuntime) {
     let mut cases = [0u8; 16384];
-    let n = io::read_full(show::INPUT, &mut cases);
-    run(&mut cases[..n]);
+    let n = read_full(&mut rt.stdin(), &mut cases);
+    run(&mut cases[..n], Output(rt.stdout()));
 }

@@ -1,37 +1,24 @@
 // Calls of the crates that keep line starts and errors.
-use crate::registers::{NUMBER, Registers, START};
-use crate::show;
-use errors::{Added, Error};
-use position::File;
+use crate::show::Output;
+use errors::{Error, Fault};
 use scanner::State;
 
 // P: of a file, the table, n and i. An added line is the one call that changes the table.
 pub(crate) fn position(
     function: u8,
-    registers: Registers,
     state: State,
     table: &mut [usize],
-) -> State {
-    if function == b'a' {
-        show::answer(state.file().add_line(table, registers[NUMBER]));
-        return state;
-    }
-    ask_position(
-        function,
-        state.file(),
-        table,
-        registers[NUMBER],
-        registers[START],
-    );
-    state
-}
-
-fn ask_position(function: u8, file: File, table: &[usize], n: usize, i: usize) {
+    n: usize,
+    i: usize,
+    out: Output,
+) {
+    let file = state.file();
     match function {
-        b'f' => show::number(state::bit_of(file.fits(table))),
-        b'o' => show::answer(file.pos(n)),
-        b'p' => show::located(file.position(table, n)),
-        _ => show::answer(file.line_start(table, n, i)),
+        b'a' => out.show(file.add_line(table, n)),
+        b'f' => out.show(file.fits(table)),
+        b'o' => out.show(file.pos(n)),
+        b'p' => out.show(file.position(table, n)),
+        _ => out.show(file.line_start(table, n, i)),
     }
 }
 
@@ -41,32 +28,15 @@ fn error_at(offset: usize) -> Error {
         offset,
         line: 2,
         column: 3,
-        number: errors::OPEN_QUOTE as usize,
-    }
-}
-
-fn show_added(added: Added) {
-    match added {
-        Added::Count(n) => show::number(n),
-        Added::Refused(n) => show::refused(n),
+        number: Fault::OpenQuote as usize,
     }
 }
 
 // E: of the list, the error count and n.
-pub(crate) fn errors(
-    function: u8,
-    registers: Registers,
-    state: State,
-    list: &mut [usize],
-) -> State {
-    call_errors(function, list, state.errors, registers[NUMBER]);
-    state
-}
-
-fn call_errors(function: u8, list: &mut [usize], count: usize, n: usize) {
+pub(crate) fn errors(function: u8, state: State, list: &mut [usize], n: usize, out: Output) {
     match function {
-        b'r' => show::number(errors::room(list)),
-        b'a' => show_added(errors::add(list, count, error_at(n))),
-        _ => show::got(errors::get(list, count, n)),
+        b'r' => out.show(errors::room(list)),
+        b'a' => out.show(errors::add(list, state.errors, error_at(n))),
+        _ => out.show(errors::get(list, state.errors, n)),
     }
 }

@@ -1,73 +1,140 @@
 // Writes the answers.
-use errors::Got;
-use position::{Answer, Located};
+use errors::Error;
+use opening::{NotOpened, Opened};
+use position::Position;
+use refusal::Refusal;
+use scanner::State;
+use std::fmt::Display;
+use std::io::{Print, Stdout};
+use utf8::Char;
+use validation::NotUtf8;
 
-// The files that every program has open: standard input and standard output.
-pub(crate) const INPUT: i32 = 0;
+// Standard output. What it does not take is left out, and the run goes on.
+#[derive(Clone, Copy)]
+pub(crate) struct Output(pub(crate) Stdout);
 
-const OUTPUT: i32 = 1;
+impl Output {
+    pub(crate) fn bytes(self, bytes: &[u8]) {
+        let _ = self.0.write_all(bytes);
+    }
 
-pub(crate) fn text(s: &[u8]) {
-    io::write_all(OUTPUT, s);
+    fn text<D: Display + Drop>(self, text: D) {
+        let _ = self.0.print(text);
+    }
+
+    pub(crate) fn show<T: Show>(self, answer: T) {
+        answer.show(self);
+    }
 }
 
-pub(crate) fn byte(b: u8) {
-    let one = [b];
-    text(&one);
+// What a call answers. Each part of it is written with a space before it.
+pub(crate) trait Show {
+    fn show(self, out: Output);
 }
 
-pub(crate) fn number(n: usize) {
-    byte(b' ');
-    io::print_decimal(OUTPUT, n as u64);
+impl Show for usize {
+    fn show(self, out: Output) {
+        out.text(format_args!(" {self}"));
+    }
 }
 
-pub(crate) fn bytes(s: &[u8]) {
-    byte(b' ');
-    byte(b'\'');
-    text(s);
-    byte(b'\'');
+impl Show for bool {
+    fn show(self, out: Output) {
+        out.show(usize::from(self));
+    }
 }
 
-pub(crate) fn refused(n: u8) {
-    text(b" refused");
-    number(n as usize);
+impl Show for &[u8] {
+    fn show(self, out: Output) {
+        out.bytes(b" '");
+        out.bytes(self);
+        out.bytes(b"'");
+    }
+}
+
+impl<T: Show> Show for Option<T> {
+    fn show(self, out: Output) {
+        match self {
+            Some(answer) => answer.show(out),
+            None => out.bytes(b" nothing"),
+        }
+    }
+}
+
+impl<T: Show, E: Show> Show for Result<T, E> {
+    fn show(self, out: Output) {
+        match self {
+            Ok(answer) => answer.show(out),
+            Err(why) => why.show(out),
+        }
+    }
+}
+
+impl Show for Refusal {
+    fn show(self, out: Output) {
+        out.text(format_args!(" refused {}", self as u8));
+    }
 }
 
 // Refusal 1 and the place of the bad byte.
-pub(crate) fn not_utf8(place: usize) {
-    refused(refusal::NOT_UTF8);
-    number(place);
-}
-
-pub(crate) fn answer(a: Answer) {
-    match a {
-        Answer::Gave(n) => number(n),
-        Answer::Refused(n) => refused(n),
+impl Show for NotUtf8 {
+    fn show(self, out: Output) {
+        out.show(Refusal::NotUtf8);
+        out.show(self.place);
     }
 }
 
-// Offset, line and column of a position.
-pub(crate) fn located(a: Located) {
-    match a {
-        Located::At(p) => {
-            number(p.offset);
-            number(p.line);
-            number(p.column);
+impl Show for NotOpened {
+    fn show(self, out: Output) {
+        match self {
+            NotOpened::NotUtf8 { place } => out.show(NotUtf8 { place }),
+            NotOpened::Refused(refusal) => out.show(refusal),
         }
-        Located::Refused(n) => refused(n),
     }
 }
 
-// Number, offset, line and column of an error.
-pub(crate) fn got(a: Got) {
-    match a {
-        Got::Found(e) => {
-            number(e.number);
-            number(e.offset);
-            number(e.line);
-            number(e.column);
-        }
-        Got::Nothing => text(b" nothing"),
-        Got::Refused(n) => refused(n),
+// The number of characters.
+impl Show for Opened {
+    fn show(self, out: Output) {
+        out.show(self.chars);
+    }
+}
+
+impl Show for Char {
+    fn show(self, out: Output) {
+        out.show(self.code as usize);
+        out.show(self.width);
+    }
+}
+
+// Offset, line and column.
+impl Show for Position {
+    fn show(self, out: Output) {
+        out.show(self.offset);
+        out.show(self.line);
+        out.show(self.column);
+    }
+}
+
+// Number, offset, line and column.
+impl Show for Error {
+    fn show(self, out: Output) {
+        out.show(self.number);
+        out.show(self.offset);
+        out.show(self.line);
+        out.show(self.column);
+    }
+}
+
+// Place, offset, mark, line count, error count and the current line.
+impl Show for State {
+    fn show(self, out: Output) {
+        out.show(self.place);
+        out.show(self.offset);
+        out.show(self.mark);
+        out.show(self.lines);
+        out.show(self.errors);
+        out.show(self.line.number);
+        out.show(self.line.start);
     }
 }

@@ -1,11 +1,13 @@
 -- A decimal integer that was written is one that the lexer says.
 use Prim.Native.Nat.{ℕ, ◌+◌, ◌-◌, ◌≤◌, ◌<◌}
 use mathlib.Core.Path.{◌≡◌, refl, sym, ap, ◌∙◌}
-use mathlib.Core.Bool.{Bool, true, false, not, ◌||◌}
+use mathlib.Core.Bool.{Bool, true, false, not, ◌||◌, true≢false}
 use mathlib.Core.List.{List}
 use mathlib.Core.Logic.{◌≢◌, ⊎_elim}
 use native.Mathlib.Omega.{arith}
 use native.Mathlib.Nat.{add-zero}
+use native.Mathlib.Decide.{dec_lt}
+use Rattle.std.specs.Prelude.{None}
 use lib.Dec.{eqb}
 use lib.ListN.{get_or, drop}
 use lib.Seq.{sets}
@@ -16,22 +18,21 @@ use Rattle.basics.proofs.Lists.{reach}
 use Rattle.utf8.specs.Chars.{chars}
 use Rattle.digits.specs.Digit.{is_decimal}
 use Rattle.kinds.specs.Kinds.{IDENT, INT, PERIOD}
+use Rattle.kinds.specs.declared.kind.Kind.TheVariants.{Int}
 use Rattle.kinds.specs.Table.{operators}
 use Rattle.words.specs.Word.{is_letter}
-use Rattle.numbers.specs.declared.Number.{Number}
-use Rattle.numbers.specs.declared.Spelling.TheVariants.{AsRead}
+use Rattle.numbers.specs.declared.Spelling.TheVariants.{AsRead as Same}
+use Rattle.numbers.specs.Number.{Numeral, NumberSaid, number, number_at}
 use Rattle.numbers.proofs.Decimal.{goes_on, integer_is}
 use Rattle.lexer.specs.declared.lexed.Text.TheVariants.{Number as NumberText}
-use Rattle.lexer.specs.declared.lexed.Value.TheVariants.{Empty as NoValue}
 use Rattle.lexer.specs.Lex.{lex_token}
-use Rattle.lexer.specs.Made.{answer}
+use Rattle.lexer.specs.Made.{shown_as, answer_with}
 use Rattle.lexer.specs.Placed.{placed, said}
 use Rattle.lexer.proofs.Ways.{number_there}
 use Rattle.lexer.proofs.Numerals.{numeral_at, numeral_said}
 use Rattle.lexer.proofs.Dispatch.{number_is}
-use Rattle.batch.specs.declared.next.Next.{Next}
 use Rattle.parts.specs.Layout.{token_numbers}
-use Rattle.batch.specs.Simple.{rows_from, first_kind, simple_token, GivesSimple}
+use Rattle.batch.specs.Simple.{rows_from, first_kind, simple_token, Gave}
 use Rattle.batch.proofs.SimpleTokens.{letter_past}
 use Rattle.batch.proofs.Giving.{gives_plain}
 
@@ -58,19 +59,35 @@ module _ (src : List ℕ) (at end : ℕ) (some : at < end) (all : (p : ℕ) → 
       (λ (l : is_letter (get_or src at 0) ≡ true). absurd (omega (arith, letter_past (get_or src at 0) l, between_true 48 (get_or src at 0) 57 first)))
       (λ l. l) (either (is_letter (get_or src at 0)))
 
+  abbrev read : Numeral
+  read = number (chars (drop at src))
+
+  read_is : number_at at read ≡ record { kind = INT; end = end; error = 0; spelling = Same }
+  read_is = integer_is src at end some all behind alone
+
   integer_reads : (m : Bool)
-      → said src at (answer INT at end false true (NumberText AsRead) NoValue (end - at)) ≡ placed src at (lex_token m (chars (drop at src)))
+      → said src at (answer_with None Int end (end - at) false true (shown_as (NumberText Same) (end - at) false)) ≡ placed src at (lex_token m (chars (drop at src)))
   integer_reads m =
-      ap (λ k. said src at (answer INT at end false true (NumberText AsRead) NoValue k)) (sym (add-zero (end - at)))
-      ∙ ap (λ (n : Number). said src at (numeral_at src at n)) (sym (integer_is src at end some all behind alone))
-      ∙ numeral_said src at (number_there src at (rw first))
+      let reached : end ≡ at + read.len = sym (ap (λ (x : NumberSaid). x.end) read_is) in
+      let spelled : Same ≡ read.spelling = sym (ap (λ (x : NumberSaid). x.spelling) read_is) in
+      ap (λ k. said src at (answer_with None Int end (end - at) false true (shown_as (NumberText Same) k false))) (sym (add-zero (end - at)))
+      ∙ (λ i. said src at (numeral_at src at Int None (reached i) (spelled i)))
+      ∙ numeral_said src at (number_there src at (rw first)) Int None (sym (ap (λ (x : NumberSaid). x.kind) read_is)) (sym (ap (λ (x : NumberSaid). x.error) read_is))
       ∙ ap (placed src at)
       (number_is m src at (reach src at (omega (arith, between_true 48 (get_or src at 0) 57 first))) (get_or src (at + 1) 0) refl no_letter (rw first))
 
   pub gives_integer : (safe position : ℕ) (tokens : List ℕ) (to : ℕ) → end < safe + 16
-      → {r : Next} {tokens' : List ℕ} → r ≡ record { found = true; place = end; mark = true }
-      → tokens' ≡ sets tokens to (token_numbers (simple_token INT false position at end))
-      → GivesSimple src at safe position tokens to r tokens'
-  gives_integer safe position tokens to near is w =
+      → {tokens' : List ℕ} → tokens' ≡ sets tokens to (token_numbers (simple_token INT false position at end))
+      → Gave src at safe position tokens to (record { place = end; mark = true }) tokens'
+  gives_integer safe position tokens to near w =
       let whole : at + (end - at) ≡ end = omega arith in
-      gives_plain src at safe position tokens to INT end false true (NumberText AsRead) (end - at) integer_reads refl refl near is (w ∙ rw whole)
+      gives_plain src at safe position tokens to Int end (end - at) false true (NumberText Same) (end - at) integer_reads refl refl refl near refl (w ∙ rw whole)
+
+-- the digits from a place on are some, if the first byte is one
+pub some_digit : (src : List ℕ) (at safe end : ℕ) → at < safe → at ≤ end → is_decimal (get_or src at 0) ≡ true
+    → (end < safe → is_decimal (get_or src end 0) ≡ false) → at < end
+some_digit src at safe end h l d f =
+    elim (dec_lt at end) [
+      | yes k ↦ k
+      | no k ↦ let e : end ≡ at = omega (arith, l) in absurd (true≢false (sym d ∙ rw e at (f (omega (arith, e, h)))))
+    ]

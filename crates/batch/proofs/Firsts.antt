@@ -1,43 +1,50 @@
--- The table of what each first byte tells, as the loops of `batch::first::first_kinds` build it.
-use Prim.Native.Nat.{ℕ, zero, suc, ◌+◌}
+-- The table of what each first byte tells, as the loops of `batch::tables::first_kinds` build it.
+use Prim.Native.Nat.{ℕ, zero, suc, ◌+◌, ◌-◌, ◌≤◌}
 use Prim.Native.Char.{code}
-use mathlib.Core.Path.{◌≡◌, refl}
+use mathlib.Core.Path.{◌≡◌}
 use mathlib.Core.List.{List}
 use native.Mathlib.Omega.{arith}
 use lib.Dec.{eqb, eqb→eq}
 use lib.ListN.{get_or, set, replicate}
 use Rattle.basics.proofs.Every.{every_entry}
-use Rattle.kinds.specs.Kinds.{ILLEGAL, IDENT, INT, STRING, ADD, LPAREN, LBRACK, LBRACE, COMMA, PERIOD, RPAREN, RBRACK, RBRACE, SEMICOLON}
+use Rattle.kinds.specs.declared.kind.Kind.{Kind}
+use Rattle.kinds.specs.declared.kind.Kind.TheVariants.{Illegal, Ident, Int, String, Add, Lparen, Lbrack, Lbrace, Comma, Period, Rparen, Rbrack, Rbrace, Semicolon}
+use Rattle.kinds.specs.Number.{kind_number}
 use Rattle.kinds.specs.Table.{operators}
 use Rattle.words.specs.Word.{is_letter}
 use Rattle.batch.specs.Simple.{rows_from, first_kind, IsTable}
 
 -- the table before the loops
-unfoldable pub marks : List ℕ
+unfoldable pub marks : List Kind
 marks =
-    let to-lparen = set (set (set (set (set (replicate 256 ILLEGAL) (code "!") ADD) (code "\"") STRING) (code "%") ADD) (code "&") ADD) (code "(") LPAREN in
-    let to-period = set (set (set (set (set (set to-lparen (code ")") RPAREN) (code "*") ADD) (code "+") ADD) (code ",") COMMA) (code "-") ADD) (code ".") PERIOD in
-    let to-greater = set (set (set (set (set to-period (code ":") ADD) (code ";") SEMICOLON) (code "<") ADD) (code "=") ADD) (code ">") ADD in
-    set (set (set (set (set (set (set to-greater (code "[") LBRACK) (code "]") RBRACK) (code "^") ADD) (code "_") IDENT) (code "{") LBRACE) (code "|") ADD) (code "}") RBRACE
+    let to-lparen = set (set (set (set (set (replicate 256 Illegal) (code "!") Add) (code "\"") String) (code "%") Add) (code "&") Add) (code "(") Lparen in
+    let to-period = set (set (set (set (set (set to-lparen (code ")") Rparen) (code "*") Add) (code "+") Add) (code ",") Comma) (code "-") Add) (code ".") Period in
+    let to-greater = set (set (set (set (set to-period (code ":") Add) (code ";") Semicolon) (code "<") Add) (code "=") Add) (code ">") Add in
+    set (set (set (set (set (set (set to-greater (code "[") Lbrack) (code "]") Rbrack) (code "^") Add) (code "_") Ident) (code "{") Lbrace) (code "|") Add) (code "}") Rbrace
 
--- with the first n letters, in both cases
-unfoldable pub lettered : ℕ → List ℕ
-lettered zero = marks
-lettered (suc n) = set (set (lettered n) (code "A" + n) IDENT) (code "a" + n) IDENT
+-- with the first n entries from a place on told to be of a kind
+unfoldable pub told : ℕ → Kind → List Kind → ℕ → List Kind
+told first kind table zero = table
+told first kind table (suc n) = set (told first kind table n) (first + n) kind
 
--- and with the first n digits
-unfoldable pub counted : ℕ → List ℕ
-counted zero = lettered 26
-counted (suc n) = set (counted n) (code "0" + n) INT
+-- with the letters, in both cases, and the digits
+abbrev pub capitals : ℕ → List Kind
+capitals = told (code "A") Ident marks
 
-pub is_table : IsTable (counted 10)
-unfolding counted lettered marks first_kind rows_from operators is_letter
-is_table = (refl, λ b h. eqb→eq (get_or (counted 10) b 0) (first_kind b) (every_entry (λ k x. eqb x (first_kind k)) (counted 10) 0 tt b h))
+abbrev pub smalls : ℕ → List Kind
+smalls = told (code "a") Ident (capitals 26)
 
-pub more : (n : ℕ) → set (set (lettered n) (code "A" + n) IDENT) (code "a" + n) IDENT ≡ lettered (n + 1)
-unfolding lettered
-more n = let e : n + 1 ≡ suc n = omega arith in rw e
+abbrev pub digits : ℕ → List Kind
+digits = told (code "0") Int (smalls 26)
 
-pub more_digits : (n : ℕ) → set (counted n) (code "0" + n) INT ≡ counted (n + 1)
-unfolding counted
-more_digits n = let e : n + 1 ≡ suc n = omega arith in rw e
+pub is_table : IsTable (digits 10)
+unfolding told marks first_kind rows_from operators is_letter
+is_table = λ b h. eqb→eq (kind_number (get_or (digits 10) b Illegal)) (first_kind b) (every_entry (λ k x. eqb (kind_number x) (first_kind k)) (digits 10) Illegal tt b h)
+
+-- one more entry, at the place k
+pub more : (first : ℕ) (kind : Kind) (table : List Kind) (k : ℕ) → first ≤ k → set (told first kind table (k - first)) k kind ≡ told first kind table (k + 1 - first)
+unfolding told
+more first kind table k h =
+    let e : k + 1 - first ≡ suc (k - first) = omega arith in
+    let at : first + (k - first) ≡ k = omega arith in
+    rw (e, at)

@@ -1,30 +1,31 @@
 -- A simple token that was written is one that the lexer says.
 use Prim.Native.Nat.{ℕ, ◌+◌, ◌-◌, ◌≤◌, ◌<◌}
 use mathlib.Core.Path.{◌≡◌, refl, sym, ap, ◌∙◌}
-use mathlib.Core.Bool.{Bool, true, false, true≢false, false≢true}
+use mathlib.Core.Bool.{Bool, true, false}
 use mathlib.Core.List.{List}
+use mathlib.Core.Logic.{⊎_elim}
 use native.Mathlib.Nat.{add-zero}
 use native.Mathlib.Omega.{arith}
 use lib.Dec.{eqb}
 use lib.ListN.{length, take, drop, get_or, length-drop}
 use lib.Seq.{sets, take_all}
-use mathlib.Core.Logic.{⊎_elim}
 use borrow.Author.Tests.{ne_eqb, eq-eqb, eqb-true, eqb-false}
+use Rattle.std.specs.Prelude.{None}
 use Rattle.basics.proofs.Choice.{either}
 use Rattle.utf8.specs.Chars.{chars}
 use Rattle.swar.specs.Number.{number_of}
 use Rattle.swar.proofs.Numbers.{Bytes}
+use Rattle.kinds.specs.declared.kind.Kind.{Kind}
 use Rattle.kinds.specs.Kinds.{EOF, IDENT, STRING}
-use Rattle.kinds.specs.Table.{ident_token}
-use Rattle.keywords.specs.Search.{kind_in}
+use Rattle.kinds.specs.Number.{kind_number}
+use Rattle.kinds.specs.Table.{ident_token, sets_mark}
 use Rattle.keywords.proofs.Slots.{kind_found}
 use Rattle.words.specs.Word.{is_letter, word_len}
 use Rattle.lexer.specs.declared.lexed.Text.{Text}
 use Rattle.lexer.specs.declared.lexed.Text.TheVariants.{Empty, AsRead}
-use Rattle.lexer.specs.declared.lexed.Value.TheVariants.{Empty as NoValue}
-use Rattle.kinds.specs.Table.{sets_mark}
+use Rattle.lexer.specs.declared.lexed.Lexed.{Lexed}
 use Rattle.lexer.specs.Lex.{lex_token}
-use Rattle.lexer.specs.Made.{answer}
+use Rattle.lexer.specs.Made.{shown_as, answer_with}
 use Rattle.lexer.specs.Placed.{placed, said}
 use Rattle.lexer.proofs.Known.{word_known, word_no_string}
 use Rattle.lexer.proofs.Dispatch.{word_is}
@@ -32,78 +33,77 @@ use Rattle.lexer.proofs.Tokens.{identifier_said, keyword_said}
 use Rattle.batch.specs.declared.next.Next.{Next}
 use Rattle.parts.specs.Layout.{token_numbers}
 use Rattle.scanner.specs.Steps.{token_by}
-use Rattle.batch.specs.Simple.{IsKeywords, simple_token, word_token, GivesSimple}
+use Rattle.batch.specs.Simple.{keyword_in, simple_token, word_token, Gave}
+use Rattle.batch.proofs.WordKinds.{kind_of, numbered, word_below}
 
 module _ (src : List ℕ) (at safe position : ℕ) (tokens : List ℕ) (to : ℕ) where
-  -- none
-  pub gives_none : {r : Next} → r.found ≡ false → GivesSimple src at safe position tokens to r tokens
-  gives_none n = (λ _. refl, λ t. absurd (false≢true (sym n ∙ t)))
-
   -- a token of ASCII characters that is no string
-  module _ (kind end : ℕ) (inserted mark : Bool) (text : Text) (bytes : ℕ) where
-    token_is : eqb kind STRING ≡ false → simple_token kind inserted position at (at + bytes) ≡ token_by (answer kind at end inserted mark text NoValue bytes) at position
-    token_is n = rw (n, add-zero bytes, add-zero at)
+  module _ (kind : Kind) (end n : ℕ) (inserted mark : Bool) (making : Text) (bytes : ℕ) where
+    abbrev lexed : Lexed
+    lexed = answer_with None kind end n inserted mark (shown_as making bytes false)
 
-    pub gives_plain : ((m : Bool) → said src at (answer kind at end inserted mark text NoValue bytes) ≡ placed src at (lex_token m (chars (drop at src))))
-        → eqb kind EOF ≡ false → eqb kind STRING ≡ false → end < safe + 16
-        → {r : Next} {tokens' : List ℕ} → r ≡ record { found = true; place = end; mark = mark }
-        → tokens' ≡ sets tokens to (token_numbers (simple_token kind inserted position at (at + bytes)))
-        → GivesSimple src at safe position tokens to r tokens'
-    gives_plain reads known n near {r} {tokens'} e w = (
-      λ f. absurd (true≢false (sym (ap (λ (y : Next). y.found) e) ∙ f)),
-      λ _. record {
-        x = answer kind at end inserted mark text NoValue bytes;
-        reads = reads;
-        plain = refl;
-        ascii = refl;
-        feeds = refl;
-        known = known;
-        near = near;
-        place = ap (λ (y : Next). y.place) e;
-        mark = ap (λ (y : Next). y.mark) e;
-        written = w ∙ ap (λ t. sets tokens to (token_numbers t)) (token_is n);
-      },
-    )
+    token_is : eqb (kind_number kind) STRING ≡ false → simple_token (kind_number kind) inserted position at (at + bytes) ≡ token_by lexed at position
+    token_is e = rw (e, add-zero bytes, add-zero at)
+
+    pub gives_plain : ((m : Bool) → said src at lexed ≡ placed src at (lex_token m (chars (drop at src)))) → n ≡ end - at
+        → eqb (kind_number kind) EOF ≡ false → eqb (kind_number kind) STRING ≡ false → end < safe + 16
+        → {r : Next} {tokens' : List ℕ} → r ≡ record { place = end; mark = mark }
+        → tokens' ≡ sets tokens to (token_numbers (simple_token (kind_number kind) inserted position at (at + bytes)))
+        → Gave src at safe position tokens to r tokens'
+    gives_plain reads ascii known no-string near {r} {tokens'} e w =
+        record {
+          x = lexed;
+          reads = reads;
+          plain = refl;
+          ascii = ascii;
+          feeds = refl;
+          known = known;
+          near = near;
+          place = ap (λ (y : Next). y.place) e;
+          mark = ap (λ (y : Next). y.mark) e;
+          written = w ∙ ap (λ t. sets tokens to (token_numbers t)) (token_is no-string);
+        }
 
   -- a word
-  module _ (h : at < length src) (l : is_letter (get_or src at 0) ≡ true) (kind end : ℕ) (e : end ≡ at + word_len (chars (drop at src)))
-      (k : kind ≡ ident_token (take (end - at) (take (length src - at) (drop at src)))) (near : end < safe + 16)
-      {r : Next} {tokens' : List ℕ} (is : r ≡ record { found = true; place = end; mark = sets_mark kind })
-      (w : tokens' ≡ sets tokens to (token_numbers (word_token kind position at end))) where
-    known : eqb kind EOF ≡ false
-    known = ne_eqb kind EOF (λ z. word_known _ (sym k ∙ z))
+  module _ (h : at < length src) (l : is_letter (get_or src at 0) ≡ true) (kind : Kind) (end : ℕ) (e : end ≡ at + word_len (chars (drop at src)))
+      (k : kind_number kind ≡ ident_token (take (end - at) (take (length src - at) (drop at src)))) (near : end < safe + 16)
+      {r : Next} {tokens' : List ℕ} (is : r ≡ record { place = end; mark = sets_mark (kind_number kind) })
+      (w : tokens' ≡ sets tokens to (token_numbers (word_token (kind_number kind) position at end))) where
+    known : eqb (kind_number kind) EOF ≡ false
+    known = ne_eqb (kind_number kind) EOF (λ z. word_known _ (sym k ∙ z))
 
-    no_string : eqb kind STRING ≡ false
-    no_string = ne_eqb kind STRING (λ z. word_no_string _ (sym k ∙ z))
+    no_string : eqb (kind_number kind) STRING ≡ false
+    no_string = ne_eqb (kind_number kind) STRING (λ z. word_no_string _ (sym k ∙ z))
 
-    identifier : kind ≡ IDENT → GivesSimple src at safe position tokens to r tokens'
+    identifier : kind_number kind ≡ IDENT → Gave src at safe position tokens to r tokens'
     identifier i =
         let whole : at + (end - at) ≡ end = omega (arith, e) in
-        gives_plain kind end false true AsRead (end - at)
-        (λ m. identifier_said src at end kind e k l i ∙ ap (placed src at) (word_is m src at h l)) known no_string near
-        (is ∙ rw i) (w ∙ rw (eq-eqb kind IDENT i, whole))
+        gives_plain kind end (end - at) false true AsRead (end - at)
+        (λ m. identifier_said src at end kind e k l i ∙ ap (placed src at) (word_is m src at h l)) refl known no_string near
+        (is ∙ rw i) (w ∙ rw (eq-eqb (kind_number kind) IDENT i, whole))
 
-    keyword : (kind ≡ IDENT → ⊥) → GivesSimple src at safe position tokens to r tokens'
+    keyword : (kind_number kind ≡ IDENT → ⊥) → Gave src at safe position tokens to r tokens'
     keyword n =
-        gives_plain kind end false (sets_mark kind) Empty 0
-        (λ m. keyword_said src at end kind e k n ∙ ap (placed src at) (word_is m src at h l)) known no_string near
-        is (w ∙ rw (ne_eqb kind IDENT n, add-zero at))
+        gives_plain kind end (end - at) false (sets_mark (kind_number kind)) Empty 0
+        (λ m. keyword_said src at end kind e k n ∙ ap (placed src at) (word_is m src at h l)) refl known no_string near
+        is (w ∙ rw (ne_eqb (kind_number kind) IDENT n, add-zero at))
 
-    pub gives_word : GivesSimple src at safe position tokens to r tokens'
-    gives_word = ⊎_elim (λ i. identifier (eqb-true kind IDENT i)) (λ n. keyword (eqb-false kind IDENT n)) (either (eqb kind IDENT))
+    pub gives_word : Gave src at safe position tokens to r tokens'
+    gives_word = ⊎_elim (λ i. identifier (eqb-true (kind_number kind) IDENT i)) (λ n. keyword (eqb-false (kind_number kind) IDENT n)) (either (eqb (kind_number kind) IDENT))
 
 -- a word of fewer than eight bytes, by its length
 pub gives_short : (src : List ℕ) (at safe position : ℕ) (tokens : List ℕ) (to : ℕ) → at < length src → is_letter (get_or src at 0) ≡ true
-    → (kind n : ℕ) → n ≡ word_len (chars (drop at src)) → kind ≡ ident_token (take n (drop at src)) → at + n < safe + 16
-    → {r : Next} {tokens' : List ℕ} → r ≡ record { found = true; place = at + n; mark = sets_mark kind }
-    → tokens' ≡ sets tokens to (token_numbers (word_token kind position at (at + n)))
-    → GivesSimple src at safe position tokens to r tokens'
-gives_short src at safe position tokens to h l kind n e k near is w =
+    → (number n : ℕ) → n ≡ word_len (chars (drop at src)) → number ≡ ident_token (take n (drop at src)) → at + n < safe + 16
+    → {r : Next} {tokens' : List ℕ} → r ≡ record { place = at + n; mark = sets_mark number }
+    → tokens' ≡ sets tokens to (token_numbers (word_token number position at (at + n)))
+    → Gave src at safe position tokens to r tokens'
+gives_short src at safe position tokens to h l number n e k near is w =
     let same : at + n - at ≡ n = omega arith in
-    gives_word src at safe position tokens to h l kind (at + n) (ap (λ m. at + m) e)
-    (k ∙ rw (same, take_all (length src - at) (drop at src) (omega (arith, length-drop at src)))) near is w
+    let known : kind_number (kind_of number) ≡ number = numbered number (omega (arith, k, word_below (take n (drop at src)))) in
+    gives_word src at safe position tokens to h l (kind_of number) (at + n) (ap (λ m. at + m) e)
+    (known ∙ k ∙ rw (same, take_all (length src - at) (drop at src) (omega (arith, length-drop at src)))) near (is ∙ rw known) (w ∙ rw known)
 
 -- the kind that the tables of the keywords tell
-pub kind_told : (numbers kinds s : List ℕ) (number n kind : ℕ) → IsKeywords numbers kinds → Bytes s → n ≤ 8 → n ≤ length s → number ≡ number_of (take n s)
-    → kind ≡ kind_in numbers kinds number n → kind ≡ ident_token (take n s)
-kind_told numbers kinds s number n kind is bytes short inside e k = k ∙ rw (is.0, is.1, e) (kind_found s n bytes short inside)
+pub kind_told : (s : List ℕ) (number n kind : ℕ) → Bytes s → n ≤ 8 → n ≤ length s → number ≡ number_of (take n s)
+    → kind ≡ keyword_in number n → kind ≡ ident_token (take n s)
+kind_told s number n kind bytes short inside e k = k ∙ rw e (kind_found s n bytes short inside)

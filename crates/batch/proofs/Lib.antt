@@ -3,6 +3,7 @@ pub mod Spaces
 pub mod Firsts
 pub mod Given
 pub mod SimpleTokens
+pub mod WordKinds
 pub mod Giving
 pub mod DecimalTokens
 pub mod StringTokens

@@ -1,12 +1,13 @@
 -- Runs of simple tokens: what a scan that gave a token says of the scans that are left, and one step of a run.
 use Prim.Native.Nat.{ℕ, ◌+◌, ◌-◌, ◌*◌, ◌≤◌, ◌<◌, ◌^◌}
 use mathlib.Core.Path.{◌≡◌, refl, sym, ap, subst, ◌∙◌}
-use mathlib.Core.Bool.{Bool, true, false, cond, ◌&&◌}
+use mathlib.Core.Bool.{true, false, ◌&&◌}
 use mathlib.Core.List.{List, []}
+use Rattle.std.specs.Prelude.{Option, Some, None, IfSome}
 use native.Mathlib.Omega.{arith}
 use borrow.Author.Tests.{leb-true}
 use lib.Dec.{leb}
-use lib.ListN.{drop}
+use lib.ListN.{length, drop}
 use lib.Seq.{sets}
 use Rattle.state.specs.declared.state.State.{State}
 use Rattle.basics.proofs.Choice.{and_split}
@@ -24,10 +25,12 @@ use Rattle.parts.specs.Layout.{token_width, token_numbers}
 use Rattle.batch.specs.Many.{is_last, many_of, left_after}
 use Rattle.batch.specs.declared.near.Near.{Near}
 use Rattle.batch.specs.declared.next.Next.{Next}
-use Rattle.batch.specs.Near.{near_as}
+use Rattle.batch.specs.declared.step.Reached.{Reached}
+use Rattle.batch.specs.declared.run.Batch.{Batch}
+use Rattle.batch.specs.Near.{feeds_of, line_from, near_as}
 use Rattle.batch.specs.Simple.{Gave}
 use Rattle.scanner.specs.Steps.{Reads}
-use Rattle.batch.specs.Run.{state_at, IsSafe, Recorded, Leads}
+use Rattle.batch.specs.Run.{state_at, reached, start_at, IsSafe, Recorded, IsLined, StepsTo}
 use Rattle.scanner.proofs.Scans.{held, scan_kept}
 use Rattle.scanner.proofs.Fitting.{fits_after}
 use Rattle.batch.proofs.Given.{left_more}
@@ -71,79 +74,103 @@ pub size_small : (s : State) (src table list : List ℕ) → fits s src table li
 size_small s src table list e = omega (arith, (fit (file_of s) table (held s src table list e).fitted).top)
 
 -- where a run starts
-pub state_start : (s : State) (table : List ℕ) → s.line ≡ line_in table s.lines → state_at s s.place s.mark s.lines table ≡ s
-state_start s table l =
+pub start_reached : (b : Batch) (table : List ℕ) → b.state.line ≡ line_in table b.state.lines → reached b.state (start_at b) table ≡ b.state
+start_reached b table l =
+    let s = b.state in
     let e : s.offset + (s.place - s.place) ≡ s.offset = omega arith in
     λ i. advance s s.place (e i) s.mark s.lines s.errors (sym l i)
 
--- ---- blanks that were found
-module _ (src : List ℕ) (place : ℕ) (mark : Bool) (n : Near) (near : near_as n ≡ skipped_at place (skip mark (chars (drop place src)))) where
-  pub near_past : (place ≤ n.end) × (place ≤ n.line) × (n.line ≤ n.end)
-  near_past =
+-- ---- a step of a run, after blanks that were found
+module _ (src : List ℕ) (first : State) (safe : ℕ) (is-safe : IsSafe src first safe) (table list : List ℕ) (at : Reached)
+    (over : first.place ≤ at.place) (holds : fits (reached first at table) src table list ≡ true)
+    (n : Near) (near : near_as at.place n ≡ skipped_at at.place (skip at.mark (chars (drop at.place src)))) (early : n.end < safe) where
+  abbrev here : State
+  here = reached first at table
+
+  low : first.offset ≤ first.size
+  low = omega (arith, offset_within here src table list holds)
+
+  start_past : at.place ≤ n.end
+  start_past = let e = ap (λ (k : Skipped). k.end) near in omega (arith, e)
+
+  line_between : (at.place ≤ line_from at.place n.line) × (line_from at.place n.line ≤ n.end)
+  line_between =
       let e = ap (λ (k : Skipped). k.end) near in
       let l = ap (λ (k : Skipped). k.line) near in
-      let w = skip_line_within mark (chars (drop place src)) in
-      (omega (arith, e), omega (arith, l), omega (arith, e, l, w))
+      let w = skip_line_within at.mark (chars (drop at.place src)) in
+      (omega (arith, l), omega (arith, e, l, w))
 
--- ---- a step of a run: a simple token after such blanks
-module _ (src : List ℕ) (first : State) (safe : ℕ) (is-safe : IsSafe src first safe) (table list : List ℕ) (place lines : ℕ) (mark : Bool)
-    (over : first.place ≤ place) (low : first.offset ≤ first.size) (holds : fits (state_at first place mark lines table) src table list ≡ true)
-    (n : Near) (near : near_as n ≡ skipped_at place (skip mark (chars (drop place src)))) (early : n.end < safe)
-    {tokens tokens' : List ℕ} {to : ℕ} {r : Next} (g : Gave src n.end safe (first.base + first.offset + (n.end - first.place)) tokens to r tokens')
-    {table' : List ℕ} (w : Recorded (state_at first place mark lines table) (near_as n) table table') where
-  abbrev here : State
-  here = state_at first place mark lines table
+  -- what is read lies before the size
+  sized : n.end + 16 < first.place + (first.size - first.offset)
+  sized = (is-safe _ early).1
 
-  abbrev there : State
-  there = state_at first r.place r.mark (lines + cond n.lf 1 0) table'
+  pub position_small : first.base + first.offset + (n.end - first.place) < 2 ^ 32
+  position_small = omega (arith, size_small here src table list holds, sized, low)
 
-  reads : Reads src here (near_as n) g.x
-  reads = record { skipped = near; token = g.reads mark }
+  pub safe_inside : safe < length src
+  safe_inside = let last = (is-safe (safe - 1) (omega (arith, early))).0 in omega (arith, early, last)
 
-  start_past : place ≤ n.end
-  start_past = (near_past src place mark n near).0
+  lined : (line : Option ℕ) → at.place ≤ line_from at.place line → line_from at.place line ≤ n.end → IfSome line (λ l. at.lines < length table)
+      → IfSome line (λ l. (at.place ≤ l) × (first.offset + (l - first.place) < 2 ^ 64) × (at.lines < length table))
+  lined None a b h = tt
+  lined (Some l) a b h = (a, omega (arith, b, position_small), h)
 
-  end_past : n.end ≤ g.x.end
-  end_past = end_over src here table list (near_as n) g.x holds reads g.plain g.ascii g.feeds
+  pub is_lined : IfSome n.line (λ l. at.lines < length table) → IsLined first at n table
+  is_lined h = (over, lined n.line line_between.0 line_between.1 h)
 
-  pub step_over : first.place ≤ r.place
-  step_over = omega (arith, g.place, over, start_past, end_past)
+  -- a simple token after them
+  module _ {tokens tokens' : List ℕ} {to : ℕ} {r : Next} (g : Gave src n.end safe (first.base + first.offset + (n.end - first.place)) tokens to r tokens')
+      {table' : List ℕ} (w : Recorded here (near_as at.place n) table table') where
+    abbrev there : State
+    there = state_at first r.place r.mark (at.lines + feeds_of n.line) table'
 
-  before_size : here.offset + (g.x.end - here.place) < here.size
-  before_size =
-      let last = (is-safe (safe - 1) (omega (arith, early))).1 in
-      omega (arith, last, g.near, over, low, early, start_past, end_past)
+    reads : Reads src here (near_as at.place n) g.x
+    reads = record { skipped = near; token = g.reads at.mark }
 
-  abbrev stepped : State
-  stepped = next src here table list (near_as n) g.x holds reads g.plain g.ascii g.feeds before_size w
+    end_past : n.end ≤ g.x.end
+    end_past = end_over src here table list (near_as at.place n) g.x holds reads g.plain g.ascii g.feeds
 
-  abbrev given : Token
-  given = token src here table list (near_as n) g.x holds reads g.plain g.ascii g.feeds before_size w
+    step_over : first.place ≤ r.place
+    step_over = omega (arith, g.place, over, start_past, end_past)
 
-  scanned : (area : List ℕ) → scan_of src here table list area ≡ gave stepped given table' list area
-  scanned = scans src here table list (near_as n) g.x holds reads g.plain g.ascii g.feeds before_size w
+    before_size : here.offset + (g.x.end - here.place) < here.size
+    before_size =
+        let last = (is-safe (safe - 1) (omega (arith, early))).1 in
+        omega (arith, last, g.near, over, low, early, start_past, end_past)
 
-  on : is_last given ≡ false
-  on = goes_on src here table list (near_as n) g.x holds reads g.plain g.ascii g.feeds before_size w g.known
+    abbrev stepped : State
+    stepped = next src here table list (near_as at.place n) g.x holds reads g.plain g.ascii g.feeds before_size w
 
-  there_is : stepped ≡ there
-  there_is =
-      let e : first.offset + (place - first.place) + (g.x.end - place) ≡ first.offset + (g.x.end - first.place) = omega (arith, over, start_past, end_past) in
-      rw (e, g.place, g.mark)
+    abbrev given : Token
+    given = token src here table list (near_as at.place n) g.x holds reads g.plain g.ascii g.feeds before_size w
 
-  step_fits : fits there src table' list ≡ true
-  step_fits = subst (λ t. fits t src table' list ≡ true) there_is (scanned_fits src here table list scanned holds)
+    scanned : (area : List ℕ) → scan_of src here table list area ≡ gave stepped given table' list area
+    scanned = scans src here table list (near_as at.place n) g.x holds reads g.plain g.ascii g.feeds before_size w
 
-  step_more : (room count : ℕ) → to ≡ count * token_width → count < room → (area : List ℕ)
-      → left_after count tokens (many_of (room - count) src here table list area) ≡ left_after (count + 1) tokens' (many_of (room - (count + 1)) src there table' list area)
-  step_more room count at h area =
-      let e : first.base + first.offset + (n.end - first.place) ≡ first.base + (first.offset + (place - first.place)) + (n.end - place) = omega (arith, over, start_past) in
-      let written : tokens' ≡ sets tokens (count * token_width) (token_numbers given) = g.written ∙ rw (at, e) in
-      scanned_more src here table list scanned on room count tokens area h
-      ∙ ap (λ l. left_after (count + 1) l (many_of (room - (count + 1)) src stepped table' list area)) (sym written)
-      ∙ ap (λ t. left_after (count + 1) tokens' (many_of (room - (count + 1)) src t table' list area)) there_is
+    on : is_last given ≡ false
+    on = goes_on src here table list (near_as at.place n) g.x holds reads g.plain g.ascii g.feeds before_size w g.known
 
-  -- to the count after it, with the line starts that there are then
-  pub step : (room count lines' : ℕ) → to ≡ count * token_width → count < room → lines' ≡ lines + cond n.lf 1 0
-      → Leads room src list here table tokens count (state_at first r.place r.mark lines' table') table' tokens' (count + 1)
-  step room count lines' at h e = rw e (record { fit = step_fits; over = omega arith; within = omega arith; left = step_more room count at h; same = λ z. absurd (omega (arith, z)) })
+    there_is : stepped ≡ there
+    there_is =
+        let e : first.offset + (at.place - first.place) + (g.x.end - at.place) ≡ first.offset + (g.x.end - first.place) = omega (arith, over, start_past, end_past) in
+        rw (e, g.place, g.mark)
+
+    step_fits : fits there src table' list ≡ true
+    step_fits = subst (λ t. fits t src table' list ≡ true) there_is (scanned_fits src here table list scanned holds)
+
+    step_more : (room count : ℕ) → to ≡ count * token_width → count < room → (area : List ℕ)
+        → left_after count tokens (many_of (room - count) src here table list area) ≡ left_after (count + 1) tokens' (many_of (room - (count + 1)) src there table' list area)
+    step_more room count here-is h area =
+        let e : first.base + first.offset + (n.end - first.place) ≡ first.base + (first.offset + (at.place - first.place)) + (n.end - at.place) = omega (arith, over, start_past) in
+        let written : tokens' ≡ sets tokens (count * token_width) (token_numbers given) = g.written ∙ rw (here-is, e) in
+        scanned_more src here table list scanned on room count tokens area h
+        ∙ ap (λ l. left_after (count + 1) l (many_of (room - (count + 1)) src stepped table' list area)) (sym written)
+        ∙ ap (λ t. left_after (count + 1) tokens' (many_of (room - (count + 1)) src t table' list area)) there_is
+
+    pub steps : (lines' : ℕ) → to ≡ at.count * token_width → lines' ≡ at.lines + feeds_of n.line
+        → StepsTo src list first at table tokens (Some (record { place = r.place; mark = r.mark; lines = lines'; count = at.count + 1 })) table' tokens'
+    steps lines' here-is e = (
+      step_over,
+      refl,
+      λ room h. rw e (record { fit = step_fits; over = omega arith; within = omega arith; left = step_more room at.count here-is h; same = λ z. absurd (omega (arith, z)) }),
+    )

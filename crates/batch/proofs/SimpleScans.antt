@@ -11,6 +11,8 @@ use lib.ListN.{length, length-set}
 use lib.Seq.{sets}
 use borrow.Author.Tests.{le-leb, eqb-true}
 use Rattle.kinds.specs.Kinds.{EOF}
+use Rattle.kinds.specs.Number.{kind_number}
+use Rattle.errors.specs.Faults.{error_number}
 use Rattle.position.proofs.Place.{Fit, fit}
 use Rattle.errors.specs.Errors.{room_of}
 use Rattle.blanks.specs.declared.Skipped.{Skipped}
@@ -19,8 +21,7 @@ use Rattle.lexer.specs.declared.lexed.Lexed.{Lexed}
 use Rattle.state.specs.declared.state.State.{State}
 use Rattle.state.specs.Fits.{file_of, fits}
 use Rattle.parts.specs.declared.token.Token.{Token}
-use Rattle.scanner.specs.declared.answer.Scanned.{Scanned}
-use Rattle.scanner.specs.Scan.{ScanLeft, scan_of}
+use Rattle.scanner.specs.Scan.{Answer, ScanLeft, scan_of}
 use Rattle.scanner.specs.Steps.{Reads, to_write, is_plain, refusal_by, state_by, token_by, starts_from}
 use Rattle.batch.specs.Many.{is_last}
 use Rattle.batch.specs.Run.{state_at, Recorded}
@@ -106,7 +107,7 @@ module _ (src : List ℕ) (s : State) (table list : List ℕ) (b : Skipped) (x :
       passes area =
           sym
           (refusal_none x (s.offset + here) b.lfs s (length table) (room_of list) (length area) (omega (arith, inside)) file.held (omega (arith, room))
-          (list_none x.error s.errors (room_of list) (eqb-true _ _ (plain x p).0) kept.errors)
+          (list_none (error_number x.error) s.errors (room_of list) (eqb-true _ _ (plain x p).0) kept.errors)
           (sym (le-leb (to_write x) (length area) (omega (arith, nothing)))))
 
       written : Recorded s b table table' → table' ≡ sets table s.lines (starts_from src s here)
@@ -119,7 +120,7 @@ module _ (src : List ℕ) (s : State) (table list : List ℕ) (b : Skipped) (x :
       abbrev pub next : State
       next = state_at s x.end x.mark (s.lines + b.lfs) table'
 
-      answer_is : ◌≡◌ {A = Scanned} (record { refusal = 0; state = next; token = token })
+      answer_is : ◌≡◌ {A = Answer} (record { refusal = 0; state = next; token = token })
           (record { refusal = 0; state = state_by x (s.offset + here) b.lfs s table'; token = token })
       answer_is = rw (here_is, (plain x p).0, add-zero s.errors)
 
@@ -129,5 +130,5 @@ module _ (src : List ℕ) (s : State) (table list : List ℕ) (b : Skipped) (x :
           ∙ sym (commit_plain_is src s start x here b.lfs table list area p (written w) answer_is)
 
       -- scans go on after it
-      pub goes_on : eqb x.kind EOF ≡ false → is_last token ≡ false
+      pub goes_on : eqb (kind_number x.kind) EOF ≡ false → is_last token ≡ false
       goes_on k = rw ((plain x p).1, (plain x p).2) k

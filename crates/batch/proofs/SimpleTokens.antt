@@ -18,22 +18,22 @@ use Rattle.utf8.specs.declared.Char.{Char}
 use Rattle.utf8.specs.Chars.{chars}
 use Rattle.digits.specs.Digit.{is_decimal}
 use Rattle.kinds.specs.Kinds.{ILLEGAL, EOF, IDENT, INT, STRING, ADD, LPAREN, PERIOD}
+use Rattle.kinds.specs.declared.kind.Kind.{Kind}
+use Rattle.kinds.specs.Number.{kind_number}
 use Rattle.kinds.specs.Table.{Class, Row, operators, specials, table, row_of, is_operator, sets_mark}
 use Rattle.kinds.specs.Table as kinds
 use Rattle.kinds.proofs.Ranges.{value_within}
 use Rattle.words.specs.Word.{is_letter}
 use Rattle.operators.specs.declared.Operator.{Operator}
-use Rattle.operators.specs.Longest.{begins, op, operator_of}
-use Rattle.operators.proofs.Bounds.{spells, operator_proper, operator_least}
+use Rattle.operators.specs.Longest.{OperatorSaid, operator_said, begins, op, operator_of}
+use Rattle.operators.proofs.Bounds.{spells, operator_proper, operator_short, operator_least}
 use Rattle.operators.proofs.Leading.{among}
 use Rattle.operators.proofs.Rows.{row, one_is, period_is}
-use Rattle.lexer.specs.declared.lexed.Text.TheVariants.{Empty}
-use Rattle.lexer.specs.declared.lexed.Value.TheVariants.{Empty as NoValue}
 use Rattle.lexer.specs.Lex.{lex_operator, lex_by, lex_token}
-use Rattle.lexer.specs.Made.{made_at, inserted_at}
+use Rattle.lexer.specs.Made.{bare_as, inserted_at}
 use Rattle.lexer.specs.Placed.{placed, said}
 use Rattle.lexer.proofs.Said.{semicolon_said}
-use Rattle.lexer.proofs.Tokens.{operator_fits, operator_said}
+use Rattle.lexer.proofs.Tokens.{operator_fits, operator_token}
 use Rattle.lexer.proofs.Opened.{open_chars}
 use Rattle.lexer.proofs.Dispatch.{by_byte, is_by, feed_is, operator_is}
 use Rattle.batch.specs.Simple.{rows_from, first_kind}
@@ -138,46 +138,46 @@ letter_past b t =
 
 -- ---- the token at a place whose byte is a delimiter
 module _ (s : List ℕ) (at : ℕ) (mark : Bool) where
-  operator_read : (x kind : ℕ) → 0 < x → get_or s at 0 ≡ x → op kind 1 ≡ operator_of (chars (drop at s)) → kind ≢ ILLEGAL
+  operator_read : (x : ℕ) (kind : Kind) → 0 < x → get_or s at 0 ≡ x → op (kind_number kind) 1 ≡ operator_of (chars (drop at s)) → kind_number kind ≢ ILLEGAL
       → lex_by mark x (chars (drop at s)) ≡ lex_operator mark (chars (drop at s))
-      → said s at (made_at kind at (at + 1) (sets_mark kind) Empty NoValue) ≡ placed s at (lex_token mark (chars (drop at s)))
+      → said s at (bare_as kind (at + 1) 1 (sets_mark (kind_number kind))) ≡ placed s at (lex_token mark (chars (drop at s)))
   operator_read x kind some e is n by =
-      operator_said s at mark (op kind 1) is n ∙ ap (placed s at) (sym (is_by mark s at (reach s at (omega (arith, e, some))) x e ∙ by))
+      operator_token s at mark (record { kind = kind; len = 1 }) is n ∙ ap (placed s at) (sym (is_by mark s at (reach s at (omega (arith, e, some))) x e ∙ by))
 
   -- one that begins no other
-  alone : (x kind : ℕ) → 0 < x → among x operators ≡ row kind (x ∷ []) ∷ [] → kind ≢ ILLEGAL
+  alone : (x : ℕ) (kind : Kind) → 0 < x → among x operators ≡ row (kind_number kind) (x ∷ []) ∷ [] → kind_number kind ≢ ILLEGAL
       → lex_by mark x (chars (drop at s)) ≡ lex_operator mark (chars (drop at s))
-      → get_or s at 0 ≡ x → said s at (made_at kind at (at + 1) (sets_mark kind) Empty NoValue) ≡ placed s at (lex_token mark (chars (drop at s)))
-  alone x kind some rows n by e = operator_read x kind some e (one_is s at x e kind rows) n by
+      → get_or s at 0 ≡ x → said s at (bare_as kind (at + 1) 1 (sets_mark (kind_number kind))) ≡ placed s at (lex_token mark (chars (drop at s)))
+  alone x kind some rows n by e = operator_read x kind some e (one_is s at x e (kind_number kind) rows) n by
 
   -- a point before a letter
-  point : is_letter (get_or s (at + 1) 0) ≡ true
-      → get_or s at 0 ≡ 46 → said s at (made_at PERIOD at (at + 1) (sets_mark PERIOD) Empty NoValue) ≡ placed s at (lex_token mark (chars (drop at s)))
+  point : (kind : Kind) → kind_number kind ≡ PERIOD → is_letter (get_or s (at + 1) 0) ≡ true
+      → get_or s at 0 ≡ 46 → said s at (bare_as kind (at + 1) 1 (sets_mark (kind_number kind))) ≡ placed s at (lex_token mark (chars (drop at s)))
   unfolding lex_by is_letter
-  point l e =
+  point kind k l e =
       let p = letter_past (get_or s (at + 1) 0) l in
       let no-point = ne_eqb (get_or s (at + 1) 0) 46 (λ z. omega (arith, p, z)) in
       let no_digit = above_it 48 (get_or s (at + 1) 0) 57 (omega (arith, p)) (omega (arith, p)) in
-      operator_read 46 PERIOD (omega arith) e (rw no-point at (period_is s at e)) (λ z. omega arith)
+      operator_read 46 kind (omega arith) e (rw k (rw no-point at (period_is s at e))) (λ z. omega (arith, k, z))
       (sym (rw e at (operator_is mark s at (reach s at (omega (arith, e))) (get_or s (at + 1) 0) refl (rw (e, no_digit)) (rw e) (rw (e, no-point)))))
 
   -- the delimiter by what its byte tells
   abbrev Reads : ℕ → Type 0
   Reads b =
-      get_or s at 0 ≡ b → (first_kind b ≡ PERIOD → is_letter (get_or s (at + 1) 0) ≡ true)
-      → said s at (made_at (first_kind b) at (at + 1) (sets_mark (first_kind b)) Empty NoValue) ≡ placed s at (lex_token mark (chars (drop at s)))
+      (kind : Kind) → kind_number kind ≡ first_kind b → get_or s at 0 ≡ b → (first_kind b ≡ PERIOD → is_letter (get_or s (at + 1) 0) ≡ true)
+      → said s at (bare_as kind (at + 1) 1 (sets_mark (kind_number kind))) ≡ placed s at (lex_token mark (chars (drop at s)))
 
   point_read : Reads 46
   unfolding first_kind rows_from operators is_letter
-  point_read e p = point (p refl) e
+  point_read kind k e p = point kind k (p refl) e
 
   pub delimiter_read : (b : ℕ) → b < 256 → LPAREN ≤ first_kind b → Reads b
-  delimiter_read b h high e p =
-      ⊎_elim (λ (t : eqb b (code ".") ≡ true). subst Reads (sym (eqb-true b (code ".") t)) point_read e p)
+  delimiter_read b h high kind k e p =
+      ⊎_elim (λ (t : eqb b (code ".") ≡ true). subst Reads (sym (eqb-true b (code ".") t)) point_read kind k e p)
       (λ (t : eqb b (code ".") ≡ false).
       let q = and_split (ltb 0 b) _ (otherwise (eqb b (code ".")) (delimits b) (delimiter_first b h high) t) in
       let u = and_split (not (ruled b)) _ q.1 in
-      alone b (first_kind b) (ltb-true 0 b q.0) (single_is (first_kind b) b (among b operators) u.1) (λ z. omega (arith, z, high))
+      alone b kind (ltb-true 0 b q.0) (rw k (single_is (first_kind b) b (among b operators) u.1)) (λ z. omega (arith, z, k, high))
       (unruled b (not-true (ruled b) u.0) mark (chars (drop at s))) e)
       (either (eqb b (code ".")))
 
@@ -186,7 +186,7 @@ module _ (s : List ℕ) (at : ℕ) (mark : Bool) where
   feed_read e = semicolon_said s at ∙ ap (placed s at) (feed_is mark s at (reach s at (omega (arith, e))) e)
 
 -- ---- the operator at a place
-module _ (s : List ℕ) (at : ℕ) (o : Operator) (is : o ≡ operator_of (chars (drop at s))) (h : starts_operator (get_or s at 0) ≡ true) where
+module _ (s : List ℕ) (at : ℕ) (o : Operator) (is : operator_said o ≡ operator_of (chars (drop at s))) (h : starts_operator (get_or s at 0) ≡ true) where
   -- the byte there
   first_byte : (0 < get_or s at 0) × (get_or s at 0 < 0x80) × (spells (get_or s at 0 ∷ []) operators ≡ true) × (ruled (get_or s at 0) ≡ false)
   first_byte =
@@ -201,22 +201,25 @@ module _ (s : List ℕ) (at : ℕ) (o : Operator) (is : o ≡ operator_of (chars
   begins_there = rw (open_chars s at (get_or s at 0) first_byte.0 first_byte.1 refl, eq-eqb (get_or s at 0) (get_or s at 0) refl)
 
   -- no kind of another class
-  other_kind : (k : ℕ) → is_operator k ≡ false → o.kind ≢ k
+  other_kind : (k : ℕ) → is_operator k ≡ false → kind_number o.kind ≢ k
   other_kind k n e =
       let r = chars (drop at s) in
       let long = operator_least (get_or s at 0 ∷ []) r begins_there first_byte.2 in
-      let t : is_operator o.kind ≡ true = rw is (⊎_elim (λ z. absurd (omega (arith, z, long))) (λ y. y) (operator_proper r)) in
+      let t : is_operator (kind_number o.kind) ≡ true = rw (ap (λ (x : OperatorSaid). x.kind) is) (⊎_elim (λ z. absurd (omega (arith, z, long))) (λ y. y) (operator_proper r)) in
       true≢false (sym t ∙ ap is_operator e ∙ n)
 
-  pub operator_kind : (o.kind ≢ ILLEGAL) × (o.kind ≢ EOF) × (o.kind ≢ STRING)
+  pub operator_kind : (kind_number o.kind ≢ ILLEGAL) × (kind_number o.kind ≢ EOF) × (kind_number o.kind ≢ STRING)
   unfolding row_of table specials
   operator_kind = (other_kind ILLEGAL refl, other_kind EOF refl, other_kind STRING refl)
 
   pub operator_within : at + o.len ≤ length s
   operator_within = operator_fits s at true o is (omega (arith, reach s at first_byte.0))
 
+  pub operator_three : o.len ≤ 3
+  operator_three = omega (arith, ap (λ (x : OperatorSaid). x.len) is, operator_short (chars (drop at s)))
+
   pub operator_reads : (mark : Bool)
-      → said s at (made_at o.kind at (at + o.len) (sets_mark o.kind) Empty NoValue) ≡ placed s at (lex_token mark (chars (drop at s)))
+      → said s at (bare_as o.kind (at + o.len) o.len (sets_mark (kind_number o.kind))) ≡ placed s at (lex_token mark (chars (drop at s)))
   operator_reads mark =
-      operator_said s at mark o is operator_kind.0
+      operator_token s at mark o is operator_kind.0
       ∙ ap (placed s at) (sym (by_byte mark s at (reach s at first_byte.0) ∙ unruled (get_or s at 0) first_byte.3 mark (chars (drop at s))))

@@ -1,7 +1,8 @@
 -- A string of plain characters alone that was written is one that the lexer says.
 use Prim.Native.Nat.{ℕ, ◌+◌, ◌-◌, ◌<◌}
-use mathlib.Core.Path.{◌≡◌, refl, sym, ap, ◌∙◌}
-use mathlib.Core.Bool.{Bool, true, false, cond, true≢false}
+use mathlib.Core.Path.{◌≡◌, refl, ap, ◌∙◌}
+use mathlib.Core.Bool.{Bool, true, false, cond}
+use Rattle.std.specs.Prelude.{None}
 use mathlib.Core.List.{List}
 use native.Mathlib.Omega.{arith}
 use lib.Dec.{eqb}
@@ -9,22 +10,23 @@ use lib.ListN.{length, drop, get_or}
 use lib.Seq.{sets}
 use Rattle.utf8.specs.Chars.{chars}
 use Rattle.kinds.specs.Kinds.{STRING}
+use Rattle.kinds.specs.declared.kind.Kind.TheVariants.{String}
 use Rattle.quotes.specs.Plain.{plain_len}
 use Rattle.quotes.proofs.PlainRuns.{closed_at, run_closed}
 use Rattle.lexer.specs.declared.lexed.Lexed.{Lexed}
 use Rattle.lexer.specs.declared.lexed.Value.TheVariants.{Interpreted}
 use Rattle.lexer.specs.Lex.{lex_token}
+use Rattle.lexer.specs.Made.{shown_as}
 use Rattle.lexer.specs.Placed.{placed, said}
 use Rattle.lexer.proofs.QuotedTokens.{literal_as, string_closed}
 use Rattle.lexer.proofs.Dispatch.{string_is}
-use Rattle.batch.specs.declared.next.Next.{Next}
 use Rattle.parts.specs.Layout.{token_numbers}
 use Rattle.scanner.specs.Steps.{token_by}
-use Rattle.batch.specs.Simple.{string_token, GivesSimple}
+use Rattle.batch.specs.Simple.{string_token, Gave}
 
 -- the lexer's answer for a string of n plain characters; the code is that of the first
 abbrev string_as : ℕ → ℕ → ℕ → Lexed
-string_as at n code = literal_as (closed_at (at + 1) n code) at STRING 0 0 Interpreted n false
+string_as at n code = literal_as (closed_at (at + 1) n code) at String None 0 (shown_as Interpreted n false)
 
 module _ (src : List ℕ) (at close : ℕ) (there : get_or src at 0 ≡ 34) (e : close ≡ at + 1 + plain_len 34 (drop (at + 1) src)) (h : close < length src)
     (f : get_or src close 0 ≡ 34) where
@@ -54,20 +56,18 @@ module _ (src : List ℕ) (at close : ℕ) (there : get_or src at 0 ≡ 34) (e :
           value = record { area = false; start = at + 1; end = value i };
         }
 
-    pub gives_string : (safe : ℕ) (tokens : List ℕ) (to : ℕ) → close < safe → {r : Next} {tokens' : List ℕ} → r ≡ record { found = true; place = close + 1; mark = true }
-        → tokens' ≡ sets tokens to (token_numbers (string_token position at close)) → GivesSimple src at safe position tokens to r tokens'
-    gives_string safe tokens to near {r} {tokens'} is w = (
-      λ n. absurd (true≢false (sym (ap (λ (y : Next). y.found) is) ∙ n)),
-      λ _. record {
-        x = answer;
-        reads = reads;
-        plain = refl;
-        ascii = omega arith;
-        feeds = refl;
-        known = refl;
-        near = omega (arith, e, near);
-        place = ap (λ (y : Next). y.place) is ∙ omega (arith, e);
-        mark = ap (λ (y : Next). y.mark) is;
-        written = w ∙ ap (λ t. sets tokens to (token_numbers t)) token_is;
-      },
-    )
+    pub gives_string : (safe : ℕ) (tokens : List ℕ) (to : ℕ) → close < safe → {tokens' : List ℕ}
+        → tokens' ≡ sets tokens to (token_numbers (string_token position at close)) → Gave src at safe position tokens to (record { place = close + 1; mark = true }) tokens'
+    gives_string safe tokens to near {tokens'} w =
+        record {
+          x = answer;
+          reads = reads;
+          plain = refl;
+          ascii = omega arith;
+          feeds = refl;
+          known = refl;
+          near = omega (arith, e, near);
+          place = omega (arith, e);
+          mark = refl;
+          written = w ∙ ap (λ t. sets tokens to (token_numbers t)) token_is;
+        }

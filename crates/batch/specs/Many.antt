@@ -1,12 +1,15 @@
 -- Many scans in one call: token after token, as long as there is room for one more.
-use Rattle.std.specs.Prelude.{ℕ, zero, suc, ◌+◌, ◌*◌, ◌/◌, Bool, cond, ◌||◌, List, [], ◌∷◌, ◌++◌, eqb, ltb, length}
+use Rattle.std.specs.Prelude.{ℕ, zero, suc, ◌+◌, ◌*◌, ◌/◌, Bool, cond, ◌||◌, List, [], ◌∷◌, ◌++◌, eqb, ltb, length, Result, Ok, Err}
 use Rattle.std.proofs.lemmas.List.Edits.{sets}
 use Rattle.refusal.specs.Refusals.{DOES_NOT_FIT}
+use Rattle.refusal.specs.declared.Refusal.{Refusal}
+use Rattle.refusal.specs.Outcome.{refusal_number}
 use Rattle.kinds.specs.Kinds.{EOF}
 use Rattle.state.specs.declared.state.State.{State}
 use Rattle.parts.specs.declared.token.Token.{Token}
 use Rattle.scanner.specs.Scan.{scan_of}
 use Rattle.parts.specs.Layout.{token_width, token_numbers}
+use Rattle.batch.specs.declared.run.Batch.{Batch}
 
 -- what scans leave, and the tokens that they gave
 pub record ManyRun : Type 0 where
@@ -77,6 +80,13 @@ left_after n tokens r =
 abbrev pub many_refused : ℕ → State → List ℕ → List ℕ → List ℕ → List ℕ → ManyLeft
 many_refused n s table list area tokens =
     record { refusal = n; state = s; table = table; list = list; area = area; tokens = tokens; count = 0 }
+
+-- what the code's answer to a call from a state says: a refused call leaves the state as it was, and
+-- gives no token
+abbrev pub many_left : State → Result Batch Refusal → List ℕ → List ℕ → List ℕ → List ℕ → ManyLeft
+many_left s (Ok b) table list area tokens =
+    record { refusal = 0; state = b.state; table = table; list = list; area = area; tokens = tokens; count = b.count }
+many_left s (Err refusal) table list area tokens = many_refused (refusal_number refusal) s table list area tokens
 
 -- many scans in one call: it is refused where there is no room for a token, and where the first
 -- scan is

@@ -1,5 +1,5 @@
 -- Steps of the code. No public contract cites this file. Blanks between most tokens, as the code of many scans reads them.
-use Rattle.std.specs.Prelude.{ℕ, ◌+◌, ◌≡◌, Bool, true, cond, List, ◌⊎◌, drop, get_or}
+use Rattle.std.specs.Prelude.{ℕ, ◌+◌, ◌≡◌, Bool, List, ◌⊎◌, drop, get_or, Option, Some, None, IfSome}
 use Prim.Native.Char.{code}
 use Rattle.utf8.specs.Chars.{chars}
 use Rattle.blanks.specs.declared.Skipped.{Skipped}
@@ -13,10 +13,20 @@ line_feed = code "\n"
 abbrev pub SpaceTo : List ℕ → ℕ → ℕ → Type 0
 SpaceTo src at p = (p ≡ at) ⊎ ((get_or src at 0 ≡ code " ") × (p ≡ at + 1))
 
--- the blanks that it says
-abbrev pub near_as : Near → Skipped
-near_as r = record { end = r.end; lfs = cond r.lf 1 0; line = r.line }
+-- how many line feeds they have, by the place after one
+abbrev pub feeds_of : Option ℕ → ℕ
+feeds_of None = 0
+feeds_of (Some line) = 1
+
+-- the place after it, or where they start
+abbrev pub line_from : ℕ → Option ℕ → ℕ
+line_from at None = at
+line_from at (Some line) = line
+
+-- the blanks at a place that it says
+abbrev pub near_as : ℕ → Near → Skipped
+near_as at r = record { end = r.end; lfs = feeds_of r.line; line = line_from at r.line }
 
 -- where they are found, they are all blanks at the place
-abbrev pub NearAt : List ℕ → ℕ → Bool → Near → Type 0
-NearAt src at mark r = r.found ≡ true → near_as r ≡ skipped_at at (skip mark (chars (drop at src)))
+abbrev pub NearAt : List ℕ → ℕ → Bool → Option Near → Type 0
+NearAt src at mark r = IfSome r (λ blanks. near_as at blanks ≡ skipped_at at (skip mark (chars (drop at src))))

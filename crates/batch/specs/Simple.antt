@@ -1,12 +1,15 @@
 -- Steps of the code. No public contract cites this file. Simple tokens, as the code of many scans reads them.
-use Rattle.std.specs.Prelude.{ℕ, ◌+◌, ◌-◌, ◌<◌, ◌≡◌, Bool, true, false, cond, List, [], ◌∷◌, eqb, length, drop, get_or}
+use Rattle.std.specs.Prelude.{ℕ, ◌+◌, ◌-◌, ◌<◌, ◌≡◌, Bool, true, false, cond, List, [], ◌∷◌, eqb, length, drop, get_or, Option, MatchOption}
 use Prim.Native.Char.{code}
 use Rattle.std.proofs.lemmas.List.Edits.{sets}
 use Rattle.utf8.specs.Chars.{chars}
 use Rattle.digits.specs.Digit.{is_decimal}
 use Rattle.kinds.specs.Kinds.{ILLEGAL, EOF, IDENT, INT, STRING, ADD, PERIOD}
 use Rattle.kinds.specs.Table.{Row, operators, keywords}
-use Rattle.keywords.specs.Search.{by_slot, row_in}
+use Rattle.kinds.specs.declared.kind.Kind.{Kind}
+use Rattle.kinds.specs.declared.kind.Kind.TheVariants.{Illegal}
+use Rattle.kinds.specs.Number.{kind_number}
+use Rattle.keywords.specs.Search.{by_slot, row_in, kind_in}
 use Rattle.words.specs.Word.{is_letter}
 use Rattle.lexer.specs.declared.lexed.Lexed.{Lexed}
 use Rattle.lexer.specs.Lex.{lex_token}
@@ -43,13 +46,17 @@ first_kind b =
     (cond (eqb b (code "/")) ILLEGAL (operator_first (rows_from b operators))))))
 
 -- the table of what each first byte tells
-abbrev pub IsTable : List ℕ → Type 0
-IsTable table = (length table ≡ 256) × ((b : ℕ) → b < 256 → get_or table b 0 ≡ first_kind b)
+abbrev pub IsTable : List Kind → Type 0
+IsTable table = (b : ℕ) → b < 256 → kind_number (get_or table b Illegal) ≡ first_kind b
 
 -- the tables of the keywords of at most eight bytes: their numbers and their kinds, each in its
 -- slot
 abbrev pub IsKeywords : List ℕ → List ℕ → Type 0
 IsKeywords numbers kinds = (numbers ≡ by_slot (λ slot. (row_in slot keywords).1)) × (kinds ≡ by_slot (λ slot. (row_in slot keywords).0))
+
+-- the kind that they tell of a word of n bytes, by the number that the word is
+abbrev pub keyword_in : ℕ → ℕ → ℕ
+keyword_in number n = kind_in (by_slot (λ slot. (row_in slot keywords).1)) (by_slot (λ slot. (row_in slot keywords).0)) number n
 
 -- a token without a value; its text is the source's bytes from its start to an end
 abbrev pub simple_token : ℕ → Bool → ℕ → ℕ → ℕ → Token
@@ -88,13 +95,12 @@ pub record Gave (src : List ℕ) (at safe position : ℕ) (tokens : List ℕ) (t
   pub plain : is_plain x ≡ true
   pub ascii : x.chars ≡ x.end - at
   pub feeds : x.lfs ≡ 0
-  pub known : eqb x.kind EOF ≡ false
+  pub known : eqb (kind_number x.kind) EOF ≡ false
   pub near : x.end < safe + 16
   pub place : r.place ≡ x.end
   pub mark : r.mark ≡ x.mark
   pub written : tokens' ≡ sets tokens to (token_numbers (token_by x at position))
 
 -- where none is found, nothing is written
-abbrev pub GivesSimple : List ℕ → ℕ → ℕ → ℕ → List ℕ → ℕ → Next → List ℕ → Type 0
-GivesSimple src at safe position tokens to r tokens' =
-    (r.found ≡ false → tokens' ≡ tokens) × (r.found ≡ true → Gave src at safe position tokens to r tokens')
+abbrev pub GivesSimple : List ℕ → ℕ → ℕ → ℕ → List ℕ → ℕ → Option Next → List ℕ → Type 0
+GivesSimple src at safe position tokens to r tokens' = MatchOption r (tokens' ≡ tokens) (λ next. Gave src at safe position tokens to next tokens')

@@ -1,7 +1,6 @@
 // Many scans in one call.
 #![tactic(auto)]
 
-mod first;
 mod layout;
 mod literal;
 mod many;
@@ -11,6 +10,8 @@ mod round;
 mod run;
 mod simple;
 mod step;
+mod tables;
 mod word;
 
-pub use many::{Batch, scan_many};
+pub use many::scan_many;
+pub use run::Batch;

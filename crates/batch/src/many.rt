@@ -3,44 +3,37 @@ ghost use Rattle.std.specs.Prelude.{◌≡◌, true, ◌≤◌, length};
 ghost use Rattle.position.specs.Lines.{line_in};
 ghost use Rattle.state.specs.Fits.{fits};
 ghost use Rattle.parts.specs.Layout.{token_width};
-ghost use Rattle.batch.specs.Many.{scan_many_of};
+ghost use Rattle.batch.specs.Many.{scan_many_of, many_left};
+ghost use Rattle.batch.specs.Run.{HasLine};
 
-use crate::first::first_kinds;
-use crate::round::{first_round, scan_round};
-use crate::run::state_at;
+use crate::round::scan_round;
+use crate::run::{Batch, start_at, state_at};
+use crate::tables::Tables;
 use parts::Token;
+use refusal::Refusal;
 use state::State;
+use std::ops::ControlFlow;
 
-// The refusal of the call, or 0; the state after its scans; how many tokens they gave. A call that
-// is refused leaves the state as it was and gives no token.
-#[derive(Clone, Copy)]
-pub struct Batch {
-    pub refusal: u8,
-    pub state: State,
-    pub count: usize,
-}
-
-fn refused(number: u8, state: State) -> Batch
-    ensures { result ≡ record { refusal = number; state = state; count = 0 } }
+// What the rounds gave. The line is read from the table once more, so that the rounds need not keep
+// it.
+fn gave(last: Batch, table: &[usize]) -> Batch
+    requires { (last.state.line ≡ line_in table.now last.state.lines) × (1 ≤ last.state.lines) × (last.state.lines ≤ length table.now) }
+    ensures { result ≡ last }
 {
     Batch {
-        refusal: number,
-        state,
-        count: 0,
+        state: state_at(last.state, start_at(last), table),
+        ..last
     }
 }
 
-// Where the rounds have come to. The line is read from the table once more, so that the rounds need
-// not keep it.
-fn gave(last: State, count: usize, table: &[usize]) -> Batch
-    requires { (last.line ≡ line_in table.now last.lines) × (1 ≤ last.lines) × (last.lines ≤ length table.now) }
-    ensures { result ≡ record { refusal = 0; state = last; count = count } }
+// The end of the rounds.
+fn ended(end: Result<Batch, Refusal>, table: &[usize]) -> Result<Batch, Refusal>
+    requires { HasLine end table.now }
+    ensures { result ≡ end }
 {
-    let state = state_at(last, last.place, last.mark, last.lines, table);
-    Batch {
-        refusal: 0,
-        state,
-        count,
+    match end {
+        Ok(last) => Ok(gave(last, table)),
+        Err(refusal) => Err(refusal),
     }
 }
 
@@ -53,25 +46,22 @@ fn scan_rounds(
     list: &mut [usize],
     area: &mut [u8],
     tokens: &mut [usize],
-) -> Batch
+) -> Result<Batch, Refusal>
     requires { (fits first src.now table.old list.old ≡ true) × (token_width ≤ length tokens.old) }
-    ensures { record { refusal = result.refusal; state = result.state; table = table.new; list = list.new; area = area.new; tokens = tokens.new; count = result.count }
-        ≡ scan_many_of src.now first table.old list.old area.old tokens.old }
+    ensures { many_left first result table.new list.new area.new tokens.new ≡ scan_many_of src.now first table.old list.old area.old tokens.old }
 {
     let room = tokens.len() / Token::NUMBERS;
-    let firsts = first_kinds();
-    let keys = keywords::keyword_numbers();
-    let values = keywords::keyword_kinds();
-    let mut round = first_round(first);
-    while round.more {
-        round = scan_round(
-            src, &firsts, &keys, &values, round, table, list, area, tokens, room,
-        );
+    let tables = Tables::new();
+    let mut round = Batch {
+        state: first,
+        count: 0,
+    };
+    loop {
+        match scan_round(src, &tables, round, table, list, area, tokens, room) {
+            ControlFlow::Continue(next) => round = next,
+            ControlFlow::Break(end) => return ended(end, table),
+        }
     }
-    if round.count == 0 {
-        return refused(round.refusal, first);
-    }
-    gave(round.state, round.count, table)
 }
 
 // Scans token after token, as many as `tokens` has room for, ten numbers each. It stops after EOF,
@@ -85,15 +75,14 @@ pub fn scan_many(
     list: &mut [usize],
     area: &mut [u8],
     tokens: &mut [usize],
-) -> Batch
-    ensures { record { refusal = result.refusal; state = result.state; table = table.new; list = list.new; area = area.new; tokens = tokens.new; count = result.count }
-        ≡ scan_many_of src.now first table.old list.old area.old tokens.old }
+) -> Result<Batch, Refusal>
+    ensures { many_left first result table.new list.new area.new tokens.new ≡ scan_many_of src.now first table.old list.old area.old tokens.old }
 {
     if tokens.len() < Token::NUMBERS {
-        return refused(refusal::DOES_NOT_FIT, first);
+        return Err(Refusal::DoesNotFit);
     }
     if !first.fits(src, table, list) {
-        return refused(refusal::DOES_NOT_FIT, first);
+        return Err(Refusal::DoesNotFit);
     }
     scan_rounds(src, first, table, list, area, tokens)
 }

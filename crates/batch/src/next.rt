@@ -7,23 +7,11 @@ ghost use Rattle.batch.specs.Simple.{simple_token};
 use crate::layout::put_token_at;
 use parts::{Part, Token};
 
-// What comes of a simple token: whether it is found, the place after it, and the mark that it
-// leaves.
+// What comes of a simple token: the place after it, and the mark that it leaves.
 #[derive(Clone, Copy)]
 pub(crate) struct Next {
-    pub(crate) found: bool,
     pub(crate) place: usize,
     pub(crate) mark: bool,
-}
-
-pub(crate) fn none(at: usize) -> Next
-    ensures { result.found ≡ false }
-{
-    Next {
-        found: false,
-        place: at,
-        mark: false,
-    }
 }
 
 // Writes a token without a value to the numbers from an index on; its text is the source's bytes
@@ -40,23 +28,21 @@ pub(crate) fn put_shown(
     requires { to + token_width ≤ length tokens.old }
     ensures { tokens.new ≡ sets tokens.old to (token_numbers (simple_token kind inserted position start end)) }
 {
-    let text = Part {
-        area: false,
-        start,
-        end,
-    };
-    let value = Part {
-        area: false,
-        start,
-        end: start,
-    };
     let token = Token {
         kind,
         inserted,
         position,
         code: 0,
-        text,
-        value,
+        text: Part {
+            area: false,
+            start,
+            end,
+        },
+        value: Part {
+            area: false,
+            start,
+            end: start,
+        },
     };
     put_token_at(token, tokens, to);
 }

@@ -4,11 +4,14 @@ ghost use Rattle.std.proofs.lemmas.List.Edits.{sets};
 ghost use Rattle.words.specs.Word.{is_letter};
 ghost use Rattle.kinds.specs.Table.{sets_mark};
 ghost use Rattle.parts.specs.Layout.{token_width, token_numbers};
-ghost use Rattle.batch.specs.Simple.{IsKeywords, word_token, GivesSimple};
+ghost use Rattle.batch.specs.Simple.{word_token, GivesSimple};
 
-use crate::next::{Next, none, put_shown};
+use crate::next::{Next, put_shown};
+use crate::tables::Tables;
+use kinds::Kind;
 
-// Gives the word of a kind; only an identifier has a text.
+// Gives the word of a kind, by the number that the tables of keywords and a token hold; only an
+// identifier has a text.
 fn give_word(
     kind: u8,
     at: usize,
@@ -18,13 +21,12 @@ fn give_word(
     to: usize,
 ) -> Next
     requires { to + token_width ≤ length tokens.old }
-    ensures { (result ≡ record { found = true; place = end; mark = sets_mark kind })
+    ensures { (result ≡ record { place = end; mark = sets_mark kind })
         × (tokens.new ≡ sets tokens.old to (token_numbers (word_token kind position at end))) }
 {
-    let text_end = if kind == kinds::IDENT { end } else { at };
+    let text_end = if kind == Kind::Ident as u8 { end } else { at };
     put_shown(kind, false, position, at, text_end, tokens, to);
     Next {
-        found: true,
         place: end,
         mark: kinds::sets_mark(kind),
     }
@@ -38,32 +40,30 @@ fn long_word(
     position: usize,
     tokens: &mut [usize],
     to: usize,
-) -> Next
+) -> Option<Next>
     requires { (at < length src.now) × (is_letter (get_or src.now at 0) ≡ true) × (to + token_width ≤ length tokens.old) }
     ensures { GivesSimple src.now at safe position tokens.old to result tokens.new }
 {
     let end = words::word_end(src, at);
     if safe <= end {
-        return none(at);
+        return None;
     }
     let kind = keywords::ident_token(&src[at..], end - at);
-    give_word(kind, at, end, position, tokens, to)
+    Some(give_word(kind as u8, at, end, position, tokens, to))
 }
 
 // Gives the word at a place; one of fewer than eight bytes is searched among the keywords as a
 // number.
 pub(crate) fn word(
     src: &[u8],
-    keys: &[u64; 64],
-    values: &[u8; 64],
+    tables: &Tables,
     at: usize,
     safe: usize,
     position: usize,
     tokens: &mut [usize],
     to: usize,
-) -> Next
-    requires { IsKeywords keys.now values.now × (at < safe) × (safe ≤ length src.now) × (is_letter (get_or src.now at 0) ≡ true)
-        × (to + token_width ≤ length tokens.old) }
+) -> Option<Next>
+    requires { (at < safe) × (safe ≤ length src.now) × (is_letter (get_or src.now at 0) ≡ true) × (to + token_width ≤ length tokens.old) }
     ensures { GivesSimple src.now at safe position tokens.old to result tokens.new }
 {
     let run = words::near_run(src, at);
@@ -71,6 +71,6 @@ pub(crate) fn word(
     if n == 8 {
         return long_word(src, at, safe, position, tokens, to);
     }
-    let kind = keywords::kind_in(keys, values, run.number, n);
-    give_word(kind, at, at + n, position, tokens, to)
+    let kind = tables.word_kind(run.number, n);
+    Some(give_word(kind, at, at + n, position, tokens, to))
 }

@@ -3,7 +3,7 @@
 ghost use Rattle.std.specs.Prelude.{◌≡◌};
 ghost use Rattle.batch_c.specs.Many.{scan_many_numbers};
 
-use refusal::too_short;
+use refusal::{Refusal, too_short};
 use state::{State, put_state, state_in};
 
 // Scans token after token, as many as `tokens` has room for, ten numbers each. It stops after EOF,
@@ -24,13 +24,14 @@ pub extern "C" fn scanner_scan_many(
         ≡ scan_many_numbers src.now state.old table.old list.old area.old tokens.old answer.old }
 {
     if too_short(state.len(), State::NUMBERS, answer.len(), 1) {
-        return refusal::DOES_NOT_FIT;
+        return Refusal::DoesNotFit as u8;
     }
-    let ran = batch::scan_many(src, state_in(state), table, list, area, tokens);
-    if ran.refusal != 0 {
-        return ran.refusal;
+    match batch::scan_many(src, state_in(state), table, list, area, tokens) {
+        Ok(ran) => {
+            answer[0] = ran.count;
+            put_state(ran.state, state);
+            0
+        }
+        Err(refusal) => refusal as u8,
     }
-    answer[0] = ran.count;
-    put_state(ran.state, state);
-    0
 }

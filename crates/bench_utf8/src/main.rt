@@ -1,26 +1,17 @@
 // Checks what it reads from standard input, up to 65,536 bytes, 100,000 times over, and prints the
-// last answer.
+// last answer: the number of characters, or the place of a byte that belongs to none.
 #![tactic(auto)]
 
 use std::io::Read;
-use validation::Checked;
-
-fn number(answer: Checked) -> usize {
-    match answer {
-        Checked::Valid(n) => n,
-        Checked::Bad(at) => at,
-    }
-}
 
 fn check_often(text: &mut [u8]) -> usize {
     let mut last = 0;
-    for k in 0..100000usize {
+    for k in 0..100_000 {
         // a store into the text, so that no check can be left out
-        let at = k % 8;
-        if at < text.len() {
-            text[at] = b'A';
+        if let Some(byte) = text.get_mut(k % 8) {
+            *byte = b'A';
         }
-        last = number(validation::check(&text[..]));
+        last = validation::check(text).unwrap_or_else(|bad| bad.place);
     }
     last
 }

@@ -9,9 +9,10 @@ ghost use Rattle.parts.specs.Layout.{token_width, text_at, part_in};
 ghost use Rattle.quantity_c.specs.Number.{quantity_numbers, number_numbers};
 ghost use Rattle.quantity_c.specs.Steps.{kind_of};
 
+use kinds::Kind;
 use parts::{Part, Token};
-use quantity::{Answer, Quantity};
-use refusal::too_short;
+use quantity::Quantity;
+use refusal::{Refusal, too_short};
 
 // How many numbers a quantity is.
 const QUANTITY: usize = 2;
@@ -20,10 +21,7 @@ const QUANTITY: usize = 2;
 fn kind_of(n: usize) -> u8
     ensures { result ≡ kind_of n }
 {
-    if n < 256 {
-        return n as u8;
-    }
-    kinds::NONE
+    u8::try_from(n).unwrap_or(Kind::None as u8)
 }
 
 // The part that the text of a token is; any number but 0 says that it is one of the area.
@@ -44,7 +42,7 @@ fn put_quantity(q: Quantity, n: &mut [usize])
     ensures { n.new ≡ sets n.old 0 (quantity_numbers q) }
 {
     n[0] = q.m as usize;
-    n[1] = q.k as usize;
+    n[1] = usize::from(q.k);
 }
 
 // The number behind a token that is an INT or a FLOAT. The source is the one that was scanned, the
@@ -60,15 +58,13 @@ pub extern "C" fn scanner_number<'a>(
         ≡ number_numbers src.now area.now token.now answer.old }
 {
     if too_short(token.len(), Token::NUMBERS, answer.len(), QUANTITY) {
-        return refusal::DOES_NOT_FIT;
+        return Refusal::DoesNotFit as u8;
     }
-    let kind = kind_of(token[0]);
-    let given = quantity_query::number(src, area, kind, text_in(token));
-    match given {
-        Answer::Gave(q) => {
+    match quantity_query::number(src, area, kind_of(token[0]), text_in(token)) {
+        Ok(q) => {
             put_quantity(q, answer);
             0
         }
-        Answer::Refused(number) => number,
+        Err(refusal) => refusal as u8,
     }
 }

@@ -2,3 +2,4 @@ pub mod Asked
 pub mod Open
 pub mod Parts
 pub mod Questions
+pub mod Steps

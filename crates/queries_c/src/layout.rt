@@ -1,11 +1,13 @@
 // A position and a part in three numbers, an error in four.
-ghost use Rattle.std.specs.Prelude.{◌≡◌, [], ◌∷◌, ◌+◌, ◌≤◌, length};
+ghost use Rattle.std.specs.Prelude.{◌≡◌, ◌+◌, ◌≤◌, length};
 ghost use Rattle.std.proofs.lemmas.List.Edits.{sets};
-ghost use Rattle.errors.specs.Layout.{width, numbers};
+ghost use Rattle.refusal.specs.Outcome.{refusal_number};
 ghost use Rattle.parts.specs.Layout.{part_width, part_in};
+ghost use Rattle.queries_c.specs.Steps.{optional_numbers};
 
 use errors::Error;
 use parts::Part;
+use refusal::Refusal;
 
 pub(crate) const POSITION: usize = 3;
 
@@ -31,21 +33,30 @@ pub(crate) fn part_in(n: &[usize], at: usize) -> Part
     }
 }
 
-// Writes three numbers to the front of a slice.
-pub(crate) fn put_three(a: usize, b: usize, c: usize, n: &mut [usize])
-    requires { 3 ≤ length n.old }
-    ensures { n.new ≡ sets n.old 0 (a ∷ b ∷ c ∷ []) }
+// The numbers of an error; four zeros where there is none.
+pub(crate) fn error_numbers(error: Option<Error>) -> [usize; ERROR]
+    ensures { result ≡ optional_numbers error }
 {
-    n[0] = a;
-    n[1] = b;
-    n[2] = c;
+    let e = error.unwrap_or(Error {
+        offset: 0,
+        line: 0,
+        column: 0,
+        number: 0,
+    });
+    [e.offset, e.line, e.column, e.number]
 }
 
-// Writes an error to the front of a slice.
-pub(crate) fn put_error(e: Error, n: &mut [usize])
-    requires { width ≤ length n.old }
-    ensures { n.new ≡ sets n.old 0 (numbers e) }
+// Writes numbers to the front of a slice.
+pub(crate) fn put<const N: usize>(numbers: [usize; N], slice: &mut [usize])
+    requires { N ≤ length slice.old }
+    ensures { slice.new ≡ sets slice.old 0 numbers.entry }
 {
-    put_three(e.offset, e.line, e.column, n);
-    n[3] = e.number;
+    slice[..N].copy_from_slice(&numbers);
+}
+
+// The number of a refusal.
+pub(crate) fn number_of(refusal: Refusal) -> u8
+    ensures { result ≡ refusal_number refusal }
+{
+    refusal as u8
 }

@@ -4,8 +4,9 @@
 ghost use Rattle.std.specs.Prelude.{◌≡◌};
 ghost use Rattle.queries_c.specs.Open.{open_numbers};
 
-use opening::Opened;
-use refusal::too_short;
+use crate::layout::number_of;
+use opening::NotOpened;
+use refusal::{Refusal, too_short};
 use state::{State, put_state};
 
 // The first state goes to `state`, the number of characters to `answer`; for refusal 1 the place of
@@ -23,22 +24,18 @@ pub extern "C" fn scanner_open(
         ≡ open_numbers src.now base size table.old state.old answer.old }
 {
     if too_short(state.len(), State::NUMBERS, answer.len(), 1) {
-        return refusal::DOES_NOT_FIT;
+        return Refusal::DoesNotFit as u8;
     }
-    let opened = opening::open(src, base, size, table);
-    match opened {
-        Opened::Ready {
-            state: first,
-            chars,
-        } => {
-            put_state(first, state);
-            answer[0] = chars;
+    match opening::open(src, base, size, table) {
+        Ok(opened) => {
+            put_state(opened.state, state);
+            answer[0] = opened.chars;
             0
         }
-        Opened::NotUtf8 { place } => {
+        Err(NotOpened::NotUtf8 { place }) => {
             answer[0] = place;
-            refusal::NOT_UTF8
+            Refusal::NotUtf8 as u8
         }
-        Opened::Refused(number) => number,
+        Err(NotOpened::Refused(refusal)) => number_of(refusal),
     }
 }

@@ -1,13 +1,13 @@
 // The exported questions about the state that the first nine numbers of a slice are. Each answers
 // the number of its refusal, or 0, and writes what it gives to a lent slice. A slice that is too
-// short for a state or an answer is refused by 6, and nothing is written.
+// short for a state or an answer is refused by 6, and nothing is written. (Each has a `match` of
+// its own. One function for all, with a closure that gives the numbers, was tried: its proof did
+// not close, since nothing tells what an array from a closure holds.)
 ghost use Rattle.std.specs.Prelude.{◌≡◌};
 ghost use Rattle.queries_c.specs.Questions.{position_numbers, line_start_numbers, error_numbers};
 
-use crate::layout::{ERROR, POSITION, put_error, put_three};
-use errors::{Error, Got};
-use position::{Answer, Located};
-use refusal::too_short;
+use crate::layout::{ERROR, POSITION, error_numbers, number_of, put};
+use refusal::{Refusal, too_short};
 use state::{State, state_in};
 
 // The offset, line and column of a position.
@@ -21,15 +21,14 @@ pub extern "C" fn scanner_position(
     ensures { record { refusal = result; answer = answer.new } ≡ position_numbers state.now table.now p answer.old }
 {
     if too_short(state.len(), State::NUMBERS, answer.len(), POSITION) {
-        return refusal::DOES_NOT_FIT;
+        return Refusal::DoesNotFit as u8;
     }
-    let located = queries::position(state_in(state), table, p);
-    match located {
-        Located::At(at) => {
-            put_three(at.offset, at.line, at.column, answer);
+    match queries::position(state_in(state), table, p) {
+        Ok(at) => {
+            put([at.offset, at.line, at.column], answer);
             0
         }
-        Located::Refused(number) => number,
+        Err(refusal) => number_of(refusal),
     }
 }
 
@@ -44,15 +43,14 @@ pub extern "C" fn scanner_line_start(
     ensures { record { refusal = result; answer = answer.new } ≡ line_start_numbers state.now table.now line answer.old }
 {
     if too_short(state.len(), State::NUMBERS, answer.len(), 1) {
-        return refusal::DOES_NOT_FIT;
+        return Refusal::DoesNotFit as u8;
     }
-    let started = queries::line_start(state_in(state), table, line);
-    match started {
-        Answer::Gave(start) => {
-            answer[0] = start;
+    match queries::line_start(state_in(state), table, line) {
+        Ok(start) => {
+            put([start], answer);
             0
         }
-        Answer::Refused(number) => number,
+        Err(refusal) => number_of(refusal),
     }
 }
 
@@ -68,26 +66,13 @@ pub extern "C" fn scanner_error(
     ensures { record { refusal = result; answer = answer.new } ≡ error_numbers state.now list.now index answer.old }
 {
     if too_short(state.len(), State::NUMBERS, answer.len(), ERROR) {
-        return refusal::DOES_NOT_FIT;
+        return Refusal::DoesNotFit as u8;
     }
-    let got = queries::error(state_in(state), list, index);
-    match got {
-        Got::Found(e) => {
-            put_error(e, answer);
+    match queries::error(state_in(state), list, index) {
+        Ok(error) => {
+            put(error_numbers(error), answer);
             0
         }
-        Got::Nothing => {
-            put_error(
-                Error {
-                    offset: 0,
-                    line: 0,
-                    column: 0,
-                    number: 0,
-                },
-                answer,
-            );
-            0
-        }
-        Got::Refused(number) => number,
+        Err(refusal) => number_of(refusal),
     }
 }

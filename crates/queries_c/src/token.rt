@@ -6,9 +6,9 @@ ghost use Rattle.std.specs.Prelude.{◌≡◌, ◌+◌, ◌≤◌};
 ghost use Rattle.parts.specs.Layout.{part_width, token_width};
 ghost use Rattle.queries_c.specs.Parts.{part_at, text_numbers, value_numbers};
 
-use crate::layout::{PART, TEXT, VALUE, part_in, put_three};
+use crate::layout::{PART, TEXT, VALUE, number_of, part_in, put};
 use parts::Token;
-use refusal::too_short;
+use refusal::{Refusal, too_short};
 use state::bit_of;
 
 // The part at an index among the numbers of a token, if it lies in its buffer.
@@ -24,16 +24,16 @@ fn answer_part<'a>(
         ≡ part_at at src.now area.now token.now answer.old }
 {
     if too_short(token.len(), Token::NUMBERS, answer.len(), PART) {
-        return refusal::DOES_NOT_FIT;
+        return Refusal::DoesNotFit as u8;
     }
     let part = part_in(token, at);
-    let mut refusal = 0;
-    parts::shown(src, area, part, &mut refusal);
-    if refusal != 0 {
-        return refusal::DOES_NOT_FIT;
+    match parts::shown(src, area, part) {
+        Ok(_) => {
+            put([bit_of(part.area), part.start, part.end], answer);
+            0
+        }
+        Err(refusal) => number_of(refusal),
     }
-    put_three(bit_of(part.area), part.start, part.end, answer);
-    0
 }
 
 // The text of a token. The source is the one that was scanned, the area as the token's own scan

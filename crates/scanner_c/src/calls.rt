@@ -5,7 +5,7 @@ ghost use Rattle.std.specs.Prelude.{◌≡◌};
 ghost use Rattle.scanner_c.specs.Calls.{scan_numbers};
 
 use parts::{Token, put_token};
-use refusal::too_short;
+use refusal::{Refusal, too_short};
 use state::{State, put_state, state_in};
 
 // Scans one token. A refused scan leaves every slice as it was.
@@ -22,13 +22,14 @@ pub extern "C" fn scanner_scan(
         ≡ scan_numbers src.now state.old table.old list.old area.old token.old }
 {
     if too_short(state.len(), State::NUMBERS, token.len(), Token::NUMBERS) {
-        return refusal::DOES_NOT_FIT;
+        return Refusal::DoesNotFit as u8;
     }
-    let scanned = scanner::scan(src, state_in(state), table, list, area);
-    if scanned.refusal != 0 {
-        return scanned.refusal;
+    match scanner::scan(src, state_in(state), table, list, area) {
+        Ok(scanned) => {
+            put_state(scanned.state, state);
+            put_token(scanned.token, token);
+            0
+        }
+        Err(refusal) => refusal as u8,
     }
-    put_state(scanned.state, state);
-    put_token(scanned.token, token);
-    0
 }

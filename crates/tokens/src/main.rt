@@ -3,32 +3,45 @@
 // people.
 #![tactic(auto)]
 
+ghost use Rattle.std.specs.Prelude.{◌≤◌, length};
+
 mod caret;
 mod listing;
 mod output;
 mod people;
+mod refused;
 mod show;
 mod texts;
 
+use listing::Lent;
+use output::Output;
+use people::Names;
+use show::Numbers;
 use std::env::Env;
-
-// Standard input, a file that every program has open.
-const INPUT: i32 = 0;
+use std::io::Read;
 
 // Is the first argument `--names`?
 fn wants_names(rt: &HostRuntime) -> bool {
     let mut word = [0u8; 8];
-    let n = rt.arg(1, &mut word).unwrap_or(0);
-    if n != 7 {
-        return false;
+    match rt.arg(1, &mut word) {
+        Ok(n) => &word[..n] == b"--names".as_slice(),
+        Err(_) => false,
     }
-    word[0] == b'-'
-        && word[1] == b'-'
-        && word[2] == b'n'
-        && word[3] == b'a'
-        && word[4] == b'm'
-        && word[5] == b'e'
-        && word[6] == b's'
+}
+
+// Reads until the buffer is full, the input ends or a read fails; gives the number of bytes.
+fn read_full(input: &mut impl Read, buffer: &mut [u8]) -> usize
+    ensures { result ≤ length buffer.new }
+{
+    let mut read = 0;
+    // An index loop: each step goes over as many bytes as one read gives.
+    while read < buffer.len() {
+        match input.read(&mut buffer[read..]) {
+            Ok(0) | Err(_) => break,
+            Ok(n) => read += n,
+        }
+    }
+    read
 }
 
 fn main(rt: HostRuntime) {
@@ -38,8 +51,17 @@ fn main(rt: HostRuntime) {
     let mut table = [0usize; 16384];
     // 1,024 errors of 4 numbers
     let mut list = [0usize; 4096];
-    let mut out = [0u8; 4096];
-    let names = wants_names(&rt);
-    let n = io::read_full(INPUT, &mut src);
-    listing::list(names, &src[..n], &mut table, &mut list, &mut area, &mut out);
+    let n = read_full(&mut rt.stdin(), &mut src);
+    let src = &src[..n];
+    let lent = Lent {
+        table: &mut table,
+        list: &mut list,
+        area: &mut area,
+    };
+    let mut out = Output::new(rt.stdout());
+    if wants_names(&rt) {
+        listing::list(&Names, src, lent, &mut out);
+    } else {
+        listing::list(&Numbers, src, lent, &mut out);
+    }
 }

@@ -1,125 +1,125 @@
-// The lines of a listing for people. Each answers how many bytes of output wait then.
-use crate::output::Buffer;
-use crate::{caret, output, texts};
+// The listing for people.
+use crate::caret::{Below, Source};
+use crate::listing::{Form, Shown};
+use crate::output::Output;
+use crate::refused::Refused;
+use crate::{caret, texts};
 use errors::Error;
 use position::Position;
-use scanner::Token;
+use scanner::State;
+use std::{fmt, str};
 
-// How many digits there is room for in a line and a column, and how wide a kind may be. Two spaces
-// follow each.
-const POSITION_DIGITS: usize = 5;
+pub(crate) struct Names;
 
-const KIND_WIDTH: usize = 7;
-
-// A line and a column, as `4:18`.
-fn line_and_column(out: &mut Buffer, waiting: usize, line: usize, column: usize) -> usize {
-    let mut end = output::decimal(out, waiting, line);
-    end = output::byte(out, end, b':');
-    output::decimal(out, end, column)
-}
-
-// What is left of a width of which so many are taken.
-fn left(width: usize, taken: usize) -> usize {
-    if taken < width {
-        return width - taken;
+impl Form for Names {
+    fn token(&self, out: &mut Output, shown: Shown<'_>) {
+        out.line(TokenLine(shown));
     }
-    0
-}
 
-// The spaces that fill what is left of a width, and two more.
-fn fill(out: &mut Buffer, waiting: usize, left: usize) -> usize {
-    let end = output::spaces(out, waiting, left);
-    output::spaces(out, end, 2)
-}
-
-// The same, filled up to its width.
-fn padded_position(out: &mut Buffer, waiting: usize, at: Position) -> usize {
-    let end = line_and_column(out, waiting, at.line, at.column);
-    let of_line = left(POSITION_DIGITS, output::digits(at.line));
-    fill(out, end, left(of_line, output::digits(at.column)))
-}
-
-// The name of a kind; its bytes end at the first zero.
-fn name(out: &mut Buffer, waiting: usize, kind: u8) -> usize {
-    let name = kinds::name(kind);
-    let mut end = waiting;
-    for k in 0..11 {
-        if name.bytes[k] != 0 {
-            end = output::byte(out, end, name.bytes[k]);
-        }
+    // An error in words, with its line of the source and a caret below it.
+    fn error(&self, out: &mut Output, src: &[u8], error: Error) {
+        let Error {
+            line,
+            column,
+            number,
+            ..
+        } = error;
+        let text = caret::line(text_of(src), line);
+        out.line(format_args!("{line}:{column}: {}", texts::error(number)));
+        out.line(format_args!("    {}", Source(text)));
+        out.line(format_args!("    {}^", Below { text, column }));
     }
-    end
-}
 
-// The name of a kind and a text.
-fn name_and_text(out: &mut Buffer, waiting: usize, kind: u8, text: &[u8]) -> usize {
-    let mut end = name(out, waiting, kind);
-    end = fill(out, end, left(KIND_WIDTH, kinds::name(kind).len));
-    output::visible(out, end, text)
-}
-
-// The name of a token's kind, then its text if it has one, or that a semicolon is not in the
-// source.
-fn named(out: &mut Buffer, waiting: usize, token: Token, text: &[u8]) -> usize {
-    if token.inserted {
-        return name_and_text(out, waiting, token.kind, b"(inserted)");
+    fn end(&self, out: &mut Output, last: State) {
+        out.line(format_args!(
+            "{}, {}",
+            Count(last.lines, "line"),
+            Count(last.errors, "error")
+        ));
     }
-    if text.len() == 0 {
-        return name(out, waiting, token.kind);
+
+    fn refused(&self, out: &mut Output, refused: Refused) {
+        out.line(format_args!("refused: {refused}"));
     }
-    name_and_text(out, waiting, token.kind, text)
 }
 
-pub(crate) fn token(
-    out: &mut Buffer,
-    waiting: usize,
-    at: Position,
-    token: Token,
-    text: &[u8],
-) -> usize {
-    let mut end = padded_position(out, waiting, at);
-    end = named(out, end, token, text);
-    output::byte(out, end, b'\n')
-}
-
-// An error in words, with its line of the source and a caret below it.
-pub(crate) fn error(out: &mut Buffer, waiting: usize, src: &[u8], error: Error) -> usize {
-    let mut end = line_and_column(out, waiting, error.line, error.column);
-    end = output::bytes(out, end, b": ");
-    end = texts::error(out, end, error.number);
-    end = output::byte(out, end, b'\n');
-    caret::line(out, end, src, error.line, error.column)
+// Bytes as text. The source was opened as UTF-8, and what a listing shows of it has whole
+// characters.
+fn text_of(bytes: &[u8]) -> &str {
+    str::from_utf8(bytes).unwrap_or("")
 }
 
 // A count of things, as `2 errors`.
-fn count(out: &mut Buffer, waiting: usize, n: usize, thing: &[u8]) -> usize {
-    let mut end = output::decimal(out, waiting, n);
-    end = output::byte(out, end, b' ');
-    end = output::bytes(out, end, thing);
-    if n == 1 {
-        return end;
+#[derive(Drop)]
+struct Count(usize, &'static str);
+
+impl fmt::Display for Count {
+    fn fmt<W: fmt::Write>(&self, f: &mut fmt::Formatter<W>) -> fmt::Result {
+        let Count(n, thing) = self;
+        write!(f, "{n} {thing}")?;
+        if *n != 1 {
+            f.write_str("s")?;
+        }
+        Ok(())
     }
-    output::byte(out, end, b's')
 }
 
-// The last line of a whole listing; then all is written.
-pub(crate) fn end(out: &mut Buffer, waiting: usize, lines: usize, errors: usize) {
-    let mut end = count(out, waiting, lines, b"line");
-    end = output::bytes(out, end, b", ");
-    end = count(out, end, errors, b"error");
-    end = output::byte(out, end, b'\n');
-    output::flush(out, end);
+// A line and a column, as `4:18`, with room for five digits.
+#[derive(Drop)]
+struct LineAndColumn(Position);
+
+impl fmt::Display for LineAndColumn {
+    fn fmt<W: fmt::Write>(&self, f: &mut fmt::Formatter<W>) -> fmt::Result {
+        let Position { line, column, .. } = self.0;
+        let digits = line.checked_ilog10().map_or(1, |log| log + 1);
+        let left = 5u32.saturating_sub(digits);
+        write!(f, "{line}:{column:<width$}", width = left as usize)
+    }
 }
 
-// The last line of a listing that a refusal ends; then all is written.
-pub(crate) fn refused(out: &mut Buffer, waiting: usize, number: u8, place: usize) {
-    let mut end = output::bytes(out, waiting, b"refused: ");
-    end = texts::refusal(out, end, number);
-    if number == refusal::NOT_UTF8 {
-        end = output::bytes(out, end, b": byte ");
-        end = output::decimal(out, end, place);
-        end = output::bytes(out, end, b", from 0, belongs to no character");
+// Text so that each character can be seen and none moves the terminal's cursor: a line feed is
+// `\n`, a CR `\r`, another control character but the tab its number. A line feed at the very end is
+// left out.
+#[derive(Drop)]
+struct Visible<'a>(&'a str);
+
+impl fmt::Display for Visible<'_> {
+    fn fmt<W: fmt::Write>(&self, f: &mut fmt::Formatter<W>) -> fmt::Result {
+        for c in self.0.strip_suffix('\n').unwrap_or(self.0).chars() {
+            match c {
+                '\t' => f.write_char(c)?,
+                '\n' => f.write_str("\\n")?,
+                '\r' => f.write_str("\\r")?,
+                '\0'..='\x1f' | '\x7f' => write!(f, "\\x{:02x}", c as u32)?,
+                '\u{80}'..='\u{9f}' => write!(f, "\\u{:04x}", c as u32)?,
+                _ => f.write_char(c)?,
+            }
+        }
+        Ok(())
     }
-    end = output::byte(out, end, b'\n');
-    output::flush(out, end);
+}
+
+// Line, column and the name of the kind; then the token's text if it has one, or that a semicolon
+// is not in the source.
+#[derive(Drop)]
+struct TokenLine<'a>(Shown<'a>);
+
+impl fmt::Display for TokenLine<'_> {
+    fn fmt<W: fmt::Write>(&self, f: &mut fmt::Formatter<W>) -> fmt::Result {
+        let Shown {
+            place,
+            token,
+            text,
+            ..
+        } = self.0;
+        let name = kinds::name(token.kind);
+        write!(f, "{}  ", LineAndColumn(place))?;
+        if token.inserted {
+            return write!(f, "{name:<7}  (inserted)");
+        }
+        if text.is_empty() {
+            return f.write_str(name);
+        }
+        write!(f, "{name:<7}  {}", Visible(text_of(text)))
+    }
 }

@@ -1,76 +1,96 @@
-// The lines of a listing. Each but the last answers how many bytes of output wait then.
-use crate::output;
-use crate::output::Buffer;
+// The listing in numbers.
+use crate::listing::{Form, Shown};
+use crate::output::Output;
+use crate::refused::Refused;
 use errors::Error;
+use kinds::Kind;
 use position::Position;
-use scanner::Token;
+use scanner::State;
+use std::fmt;
 
-// Offset, line and column, with a space after each.
-fn located(out: &mut Buffer, waiting: usize, at: Position) -> usize {
-    let mut end = output::decimal(out, waiting, at.offset);
-    end = output::byte(out, end, b' ');
-    end = output::decimal(out, end, at.line);
-    end = output::byte(out, end, b' ');
-    end = output::decimal(out, end, at.column);
-    output::byte(out, end, b' ')
+pub(crate) struct Numbers;
+
+impl Form for Numbers {
+    fn token(&self, out: &mut Output, shown: Shown<'_>) {
+        out.line(TokenLine(shown));
+    }
+
+    fn error(&self, out: &mut Output, _src: &[u8], error: Error) {
+        let at = Position {
+            offset: error.offset,
+            line: error.line,
+            column: error.column,
+        };
+        out.line(format_args!("E {} {}", Located(at), error.number));
+    }
+
+    fn end(&self, out: &mut Output, last: State) {
+        out.line(format_args!("L {}", last.lines));
+    }
+
+    fn refused(&self, out: &mut Output, refused: Refused) {
+        out.line(format_args!("R {}", refused.number()));
+    }
 }
 
-// A token's text; a written semicolon, which has none as no operator has, shows its character.
-fn text_of(out: &mut Buffer, waiting: usize, token: Token, text: &[u8]) -> usize {
-    if token.kind == kinds::SEMICOLON {
-        if !token.inserted {
-            return output::hex_bytes(out, waiting, b";");
+// Offset, line and column.
+#[derive(Drop)]
+struct Located(Position);
+
+impl fmt::Display for Located {
+    fn fmt<W: fmt::Write>(&self, f: &mut fmt::Formatter<W>) -> fmt::Result {
+        let Position {
+            offset,
+            line,
+            column,
+        } = self.0;
+        write!(f, "{offset} {line} {column}")
+    }
+}
+
+// Bytes in hexadecimal; `-` for none.
+#[derive(Drop)]
+struct Hex<'a>(&'a [u8]);
+
+impl fmt::Display for Hex<'_> {
+    fn fmt<W: fmt::Write>(&self, f: &mut fmt::Formatter<W>) -> fmt::Result {
+        if self.0.is_empty() {
+            return f.write_str("-");
+        }
+        for b in self.0 {
+            write!(f, "{b:02x}")?;
+        }
+        Ok(())
+    }
+}
+
+// Position, kind and text; then the value of a STRING, or the code point of a CHAR.
+#[derive(Drop)]
+struct TokenLine<'a>(Shown<'a>);
+
+impl TokenLine<'_> {
+    // A written semicolon, which has no text as no operator has, shows its character.
+    fn text(&self) -> &[u8] {
+        let token = self.0.token;
+        if token.kind == Kind::Semicolon as u8 && !token.inserted {
+            b";"
+        } else {
+            self.0.text
         }
     }
-    output::hex_bytes(out, waiting, text)
 }
 
-// What follows a token's text: the value of a STRING, the code point of a CHAR.
-fn value_of(out: &mut Buffer, waiting: usize, token: Token, value: &[u8]) -> usize {
-    if token.kind == kinds::STRING {
-        let end = output::byte(out, waiting, b' ');
-        return output::hex_bytes(out, end, value);
+impl fmt::Display for TokenLine<'_> {
+    fn fmt<W: fmt::Write>(&self, f: &mut fmt::Formatter<W>) -> fmt::Result {
+        let token = self.0.token;
+        let kind = token.kind;
+        write!(f, "{} {kind} {}", Located(self.0.place), Hex(self.text()))?;
+        if kind == Kind::String as u8 {
+            write!(f, " {}", Hex(self.0.value))?;
+        }
+        if kind == Kind::Char as u8 {
+            write!(f, " {:x}", token.code)?;
+        }
+        Ok(())
     }
-    if token.kind == kinds::CHAR {
-        let end = output::byte(out, waiting, b' ');
-        return output::hex(out, end, token.code as u64, 1);
-    }
-    waiting
-}
-
-pub(crate) fn token(
-    out: &mut Buffer,
-    waiting: usize,
-    at: Position,
-    token: Token,
-    text: &[u8],
-    value: &[u8],
-) -> usize {
-    let mut end = located(out, waiting, at);
-    end = output::decimal(out, end, token.kind as usize);
-    end = output::byte(out, end, b' ');
-    end = text_of(out, end, token, text);
-    end = value_of(out, end, token, value);
-    output::byte(out, end, b'\n')
-}
-
-pub(crate) fn error(out: &mut Buffer, waiting: usize, error: Error) -> usize {
-    let at = Position {
-        offset: error.offset,
-        line: error.line,
-        column: error.column,
-    };
-    let mut end = output::bytes(out, waiting, b"E ");
-    end = located(out, end, at);
-    end = output::decimal(out, end, error.number);
-    output::byte(out, end, b'\n')
-}
-
-// The last line, a letter and a number; then all is written.
-pub(crate) fn end(out: &mut Buffer, waiting: usize, letter: u8, n: usize) {
-    let mut end = output::byte(out, waiting, letter);
-    end = output::byte(out, end, b' ');
-    end = output::decimal(out, end, n);
-    end = output::byte(out, end, b'\n');
-    output::flush(out, end);
 }

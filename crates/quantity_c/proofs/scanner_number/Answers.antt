@@ -5,12 +5,13 @@ use lib.ListN.{length}
 use native.Mathlib.Omega.{arith}
 use Rattle.refusal.proofs.Lengths.{long_enough}
 use Rattle.parts.specs.Layout.{token_width}
-use Rattle.quantity.specs.Pair.{answer_outcome}
+use Rattle.refusal.specs.Outcome.{outcome_of}
 use Rattle.refusal.specs.Asked.{answered_by}
 use Rattle.quantity_c.specs.Number.{quantity_numbers, number_numbers}
 use Rattle.quantity_c.proofs.Kind.{kind_asked}
+use Rattle.quantity_c.proofs.Refusals.{refusal_tag}
 use Rattle.quantity_c.proofs.scanner_number.Goals as goal
-use Rattle.quantity_c.proofs.scanner_number.Goals.{After-number-given, Else-too_short}
+use Rattle.quantity_c.proofs.scanner_number.Goals.{After-number, Else-too_short}
 
 -- the slices are long enough
 long : (c : Else-too_short) → (token_width ≤ length c.args.token.now) × (2 ≤ length c.args.answer.now)
@@ -30,15 +31,15 @@ pub put_quantity-requires : goal.put_quantity-requires
 put_quantity-requires c = (long (goal.at.put_quantity-requires c).Else-too_short).1
 
 -- past the test of lengths, what the token in the numbers answers
-answered : (q : After-number-given)
+answered : (q : After-number)
     → let a = q.args in
-    number_numbers a.src.now a.area.now a.token.now a.answer.now ≡ answered_by quantity_numbers (answer_outcome q.number-given.result) a.answer.now
+    number_numbers a.src.now a.area.now a.token.now a.answer.now ≡ answered_by quantity_numbers (outcome_of q.number.result) a.answer.now
 unfolding number_numbers
-answered q = rw (sym q.too_short.ensures ∙ q.if-too_short.false, ← q.text_in.ensures, q.number-given.ensures, q.kind_of-kind.ensures, kind_asked)
+answered q = rw (sym q.too_short.ensures ∙ q.if-too_short.false, ← q.text_in.ensures, q.number.ensures, q.kind_of.ensures, kind_asked)
 
-pub returns-in-Gave : goal.returns-in-Gave
-returns-in-Gave c =
-    rw (c.put_quantity.ensures, answered (goal.at.returns-in-Gave c).After-number-given, c.in-Gave.is)
+pub returns-in-Ok : goal.returns-in-Ok
+returns-in-Ok c =
+    rw (c.put_quantity.ensures, answered (goal.at.returns-in-Ok c).After-number, c.in-Ok.is)
 
-pub returns-in-Refused : goal.returns-in-Refused
-returns-in-Refused c = rw (answered (goal.at.returns-in-Refused c).After-number-given, c.in-Refused.is)
+pub returns-in-Err : goal.returns-in-Err
+returns-in-Err c = rw (answered (goal.at.returns-in-Err c).After-number, c.in-Err.is, refusal_tag c.in-Err.refusal)

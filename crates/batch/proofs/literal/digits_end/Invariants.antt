@@ -1,5 +1,5 @@
 -- `literal::digits_end` meets its contract. The loop's invariant: each byte passed is a decimal digit.
-use Prim.Native.Nat.{ℕ, ◌-◌, ◌≤◌, ◌<◌}
+use Prim.Native.Nat.{ℕ, ◌≤◌, ◌<◌}
 use mathlib.Core.Path.{◌≡◌}
 use mathlib.Core.Bool.{true}
 use lib.ListN.{get_or}
@@ -7,7 +7,4 @@ use Rattle.digits.specs.Digit.{is_decimal}
 use Rattle.batch.proofs.literal.digits_end.Given as goal
 
 abbrev pub invariant-loop-end : goal.invariant-loop-end
-invariant-loop-end l = (l.at ≤ l.end) × (l.end ≤ l.safe) × ((p : ℕ) → l.at ≤ p → p < l.end → is_decimal (get_or l.src p 0) ≡ true)
-
-abbrev pub decreases-loop-end : goal.decreases-loop-end
-decreases-loop-end l = l.safe - l.end
+invariant-loop-end l = (p : ℕ) → l.at ≤ p → p < l.end → is_decimal (get_or l.src p 0) ≡ true

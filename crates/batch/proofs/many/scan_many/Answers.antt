@@ -4,16 +4,7 @@ use Rattle.batch.proofs.Given.{no_room, first_unfit}
 use Rattle.batch.proofs.many.scan_many.Goals as goal
 
 pub returns-then-tokens-lt-NUMBERS : goal.returns-then-tokens-lt-NUMBERS
-returns-then-tokens-lt-NUMBERS c = rw c.refused.ensures (no_room _ _ _ _ _ _ c.if-tokens-lt-NUMBERS.true)
+returns-then-tokens-lt-NUMBERS c = no_room _ _ _ _ _ _ c.if-tokens-lt-NUMBERS.true
 
 pub returns-then-not-fits : goal.returns-then-not-fits
-returns-then-not-fits c =
-    let unfit = sym c.fits.ensures ∙ c.if-not-fits.true in
-    rw c.refused-then-not-fits.ensures (first_unfit _ _ _ _ _ _ c.if-tokens-lt-NUMBERS.false unfit)
-
-pub scan_rounds-requires : goal.scan_rounds-requires
-scan_rounds-requires c =
-    (sym c.fits.ensures ∙ c.if-not-fits.false, c.if-tokens-lt-NUMBERS.false)
-
-pub returns : goal.returns
-returns c = c.scan_rounds.ensures
+returns-then-not-fits c = first_unfit _ _ _ _ _ _ c.if-tokens-lt-NUMBERS.false (sym c.fits.ensures ∙ c.if-not-fits.true)

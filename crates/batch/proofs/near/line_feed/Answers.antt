@@ -3,7 +3,6 @@ use Prim.Native.Nat.{◌+◌, ◌/◌}
 use native.Mathlib.Nat.{lt_of_le_of_lt}
 use native.Mathlib.Omega.{arith}
 use borrow.Author.Rules.{rules}
-use borrow.Author.Tests.{ltb-true}
 use lib.Bits.{bit_xor}
 use lib.Count.{count_trailing_zeros, trailing_le}
 use lib.Dec.{lit<}
@@ -15,7 +14,7 @@ use Rattle.batch.proofs.near.line_feed.Goals as goal
 use Rattle.batch.proofs.near.line_feed.Goals.{After-eight}
 
 pub returns-then-mark : goal.returns-then-mark
-returns-then-mark c e =
+returns-then-mark c =
     let a = c.args in
     let h = c.requires in
     near_stop a.mark a.src.now a.at a.p h.2 (stop_test a.mark _ (rw (h.1, c.if-mark.true)))
@@ -37,6 +36,6 @@ pub bounds-src-end : goal.bounds-src-end
 bounds-src-end c = omega (arith, (tabs (goal.at.bounds-src-end c).After-eight).few)
 
 pub returns : goal.returns
-returns c e =
+returns c =
     let a = c.args in
-    near_line a.mark a.src.now a.at a.p c.requires.2 c.if-mark.false c.requires.1 _ (tabs (goal.at.returns c).After-eight).each (ltb-true _ _ e)
+    near_line a.mark a.src.now a.at a.p c.requires.2 c.if-mark.false c.requires.1 _ (tabs (goal.at.returns c).After-eight).each c.if-src-end-le32.false

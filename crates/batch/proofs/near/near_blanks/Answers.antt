@@ -1,6 +1,5 @@
 -- `batch::near::near_blanks` meets its contract: at most a space stands before the byte that is tested.
 use mathlib.Core.Path.{◌≡◌, sym, ◌∙◌}
-use mathlib.Core.Bool.{false≢true}
 use mathlib.Core.Logic.{inl, inr, ⊎_elim}
 use native.Mathlib.Omega.{arith}
 use lib.ListN.{get_or}
@@ -18,12 +17,9 @@ byte : (c : Joined-b-eq32) → c.if-b-eq32.b ≡ get_or c.args.src.now c.if-b-eq
 byte c = elim c.if-b-eq32.branch [ then-b-eq32 w ↦ rw w.p-is w.b-is | else-b-eq32 w ↦ rw w.p-is w.b-is ]
 
 pub returns-then-b-gt32 : goal.returns-then-b-gt32
-returns-then-b-gt32 c e =
+returns-then-b-gt32 c =
     let a = c.args in
     near_stop a.mark a.src.now a.at c.if-b-eq32.p (place (goal.at.returns-then-b-gt32 c).Joined-b-eq32) (blank_above a.mark _ (rw (byte (goal.at.returns-then-b-gt32 c).Joined-b-eq32) at c.if-b-gt32.true))
-
-pub returns-then-b-ne10 : goal.returns-then-b-ne10
-returns-then-b-ne10 c e = absurd (false≢true (sym c.no_blanks.ensures ∙ e))
 
 pub line_feed-requires : goal.line_feed-requires
 line_feed-requires c =

@@ -1,54 +1,28 @@
-use mathlib.Core.Path.{refl, sym, subst}
+-- `run::run_simple` meets its contract.
+use mathlib.Core.Path.{◌≡◌, refl, ◌∙◌}
 use native.Mathlib.Omega.{arith}
 use borrow.Author.Rules.{rules}
-use Rattle.position.proofs.Place.{fit}
-use Rattle.state.specs.Fits.{file_of}
-use Rattle.scanner.proofs.Scans.{held}
-use Rattle.batch.specs.Run.{reached, Leads}
-use Rattle.batch.proofs.Runs.{offset_within, size_small, state_start}
-use Rattle.batch.proofs.Rounds.{leads_here, leads_on, less_left}
+use Rattle.batch.proofs.Rounds.{leads_on, safe_ready, state_ready, leads_start}
 use Rattle.batch.proofs.run.run_simple.Goals as goal
+use Rattle.batch.proofs.run.run_simple.Goals.{else-loop-at-test, then-loop-at-test+in-None}
 
 pub safe_end-safe-requires : goal.safe_end-safe-requires
-safe_end-safe-requires c =
-    let a = c.args in
-    let f = c.requires.0 in
-    ((held a.first a.src.now a.table.now a.list.now f).place, offset_within a.first a.src.now a.table.now a.list.now f, omega (arith, size_small a.first a.src.now a.table.now a.list.now f))
+safe_end-safe-requires c = let a = c.args in safe_ready a.src.now a.list.now a.from.state a.table.now c.requires.0
 
 pub loop-at-init : goal.loop-at-init
 loop-at-init c =
     let a = c.args in
-    rw c.begun-at.ensures
-    (refl, refl, omega arith, λ _. c.requires.3, subst (λ t. Leads a.room a.src.now a.list.now a.first a.table.now a.tokens.now a.from t a.table.now a.tokens.now a.from) (sym (state_start a.first a.table.now (held a.first a.src.now a.table.now a.list.now c.requires.0).line)) (leads_here a.room a.src.now a.list.now a.first a.table.now a.tokens.now a.from c.requires.0 (omega (arith, c.requires.3))))
-
-pub next_simple-at-requires : goal.next_simple-at-requires
-next_simple-at-requires c =
-    let l = c.loop-at in
-    let p = c.requires in
-    (l.invariant.4.fit, l.invariant.2, c.safe_end-safe.ensures, p.1, p.2, l.invariant.3 c.loop-at-test.true, omega (arith, l.invariant.1, p.4))
-
-pub loop-at-smaller : goal.loop-at-smaller
-loop-at-smaller c =
-    let n = c.next_simple-at in
-    rw c.loop-at-test.true (less_left n.result.more _ _ n.result.count (c.loop-at.invariant.3 c.loop-at-test.true) n.ensures.0.over (λ m. (n.ensures.2 m).0))
+    rw c.start_at-at.ensures (refl, omega arith, leads_start a.src.now a.list.now a.room a.from a.table.now a.tokens.now c.requires.0 c.requires.1)
 
 pub loop-at-preserved : goal.loop-at-preserved
 loop-at-preserved c =
-    let n = c.next_simple-at in
-    let l = c.loop-at in
-    (search rules, search rules, n.ensures.1, λ m. (n.ensures.2 m).1, leads_on _ _ l.invariant.4 n.ensures.0)
+    let step = c.in-Some.ensures in
+    (search rules, step.0, leads_on c.args.room c.args.src.now c.loop-at.invariant.2 (step.2 c.args.room c.loop-at-test.true))
 
-pub state_at-state-requires : goal.state_at-state-requires
-state_at-state-requires c =
-    let l = c.loop-at in
+pub state_at-requires : goal.state_at-requires
+state_at-requires c =
     let a = c.args in
-    let s = reached a.first l.at l.table in
-    let f = fit (file_of s) l.table (held s a.src.now l.table a.list.now l.invariant.4.fit).fitted in (
-      l.invariant.2,
-      omega (arith, offset_within s a.src.now l.table a.list.now l.invariant.4.fit, size_small s a.src.now l.table a.list.now l.invariant.4.fit),
-      f.some,
-      f.held,
-    )
-
-pub returns : goal.returns
-returns c = rw c.state_at-state.ensures c.loop-at.invariant.4
+    let l = c.loop-at in
+    let same : c.loop-at-test.table ≡ l.table =
+    elim c.loop-at-test.branch [ else-loop-at-test w ↦ w.table-is | then-loop-at-test+in-None w ↦ w.table-is ∙ w.in-None.ensures.0 ] in
+    state_ready a.src.now a.list.now a.from.state l.at c.loop-at-test.table (rw same l.invariant.2.fit) l.invariant.1

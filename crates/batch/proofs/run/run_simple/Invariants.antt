@@ -1,18 +1,15 @@
 -- `run::run_simple` meets its contract. The loop's invariant: the tokens given so far lead to the place that is reached.
-use Prim.Native.Nat.{◌+◌, ◌-◌, ◌≤◌, ◌<◌}
+use Prim.Native.Nat.{◌-◌, ◌≤◌}
 use mathlib.Core.Path.{◌≡◌}
-use mathlib.Core.Bool.{true, cond}
 use lib.ListN.{length}
 use Rattle.batch.specs.Run.{reached, Leads}
 use Rattle.batch.proofs.run.run_simple.Given as goal
 
 abbrev pub invariant-loop-at : goal.invariant-loop-at
 invariant-loop-at l =
-    (length l.table ≡ length l.initial.table)
-    × (length l.tokens ≡ length l.initial.tokens)
+    (length l.tokens ≡ length l.initial.tokens)
     × (l.first.place ≤ l.at.place)
-    × (l.at.more ≡ true → l.at.count < l.room)
-    × Leads l.room l.src l.list l.first l.initial.table l.initial.tokens l.from (reached l.first l.at l.table) l.table l.tokens l.at.count
+    × Leads l.room l.src l.list l.fn.from.state l.initial.table l.initial.tokens l.fn.from.count (reached l.first l.at l.table) l.table l.tokens l.at.count
 
 abbrev pub decreases-loop-at : goal.decreases-loop-at
-decreases-loop-at l = cond l.at.more 1 0 + (l.room - l.at.count)
+decreases-loop-at l = l.room - l.at.count

@@ -3,7 +3,7 @@ use mathlib.Core.Bool.{true, false}
 use mathlib.Core.Path.{refl, ◌∙◌}
 use native.Mathlib.Nat.{add-zero}
 use native.Mathlib.Omega.{arith}
-use Rattle.kinds.specs.Kinds.{SEMICOLON}
+use Rattle.kinds.specs.declared.kind.Kind.TheVariants.{Semicolon}
 use Rattle.lexer.specs.declared.lexed.Text.TheVariants.{Empty}
 use Rattle.batch.proofs.SimpleTokens.{feed_read}
 use Rattle.batch.proofs.Giving.{gives_plain}
@@ -12,5 +12,5 @@ use Rattle.batch.proofs.simple.semicolon.Goals as goal
 pub returns : goal.returns
 returns c =
     let a = c.args in
-    gives_plain a.src.now a.at a.safe a.position a.tokens.now a.to SEMICOLON a.at true false Empty 0
-    (λ m. feed_read a.src.now a.at m c.requires.1) refl refl (omega (arith, c.requires.0)) refl (c.put_shown.ensures ∙ rw (add-zero a.at))
+    gives_plain a.src.now a.at a.safe a.position a.tokens.now a.to Semicolon a.at 0 true false Empty 0
+    (λ m. feed_read a.src.now a.at m c.requires.1) (omega arith) refl refl (omega (arith, c.requires.0)) refl (c.put_shown.ensures ∙ rw (add-zero a.at))

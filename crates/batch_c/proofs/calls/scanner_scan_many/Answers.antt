@@ -1,20 +1,43 @@
 -- `calls::scanner_scan_many` meets its contract: past the test of lengths the scans start from the state in the numbers; where they are not refused, state
 -- and count are written.
-use Prim.Native.Nat.{ℕ, ◌≤◌}
-use mathlib.Core.Path.{◌≡◌, sym, ap, ◌∙◌}
+use Prim.Native.Nat.{ℕ, ◌+◌, ◌≤◌}
+use mathlib.Core.Path.{◌≡◌, refl, sym, ap, ◌∙◌}
 use mathlib.Core.Bool.{false}
 use mathlib.Core.List.{List}
 use native.Mathlib.Omega.{arith}
 use lib.ListN.{length}
 use borrow.Author.Tests.{le-leb, eq-eqb, ne_eqb}
+use denote.Enum.Declared.{tag_of}
+use Rattle.refusal.specs.contracts.Refusal.{the_type}
+use Rattle.refusal.specs.declared.Refusal.{Refusal}
+use Rattle.refusal.specs.declared.Refusal.TheVariants.{NotUtf8, TooLong, BadSize, NoPosition, NoLine, DoesNotFit, TableFull, ListFull, AreaFull, NoNumber, NoPair}
+use Rattle.refusal.specs.Outcome.{refusal_number}
 use Rattle.refusal.specs.Short.{too_short}
 use Rattle.refusal.proofs.Lengths.{long_enough}
 use Rattle.state.specs.Layout.{state_width, state_in}
-use Rattle.batch.specs.Many.{ManyLeft, scan_many_of}
+use Rattle.std.specs.Prelude.{Ok, Err}
+use Rattle.batch.specs.Many.{ManyLeft, many_left, scan_many_of}
 use Rattle.batch.proofs.Given.{many_kept}
 use Rattle.batch_c.specs.Many.{ManyCallLeft, scans_by, scan_many_numbers}
 use Rattle.batch_c.proofs.calls.scanner_scan_many.Goals as goal
-use Rattle.batch_c.proofs.calls.scanner_scan_many.Goals.{After-scan_many-ran, Else-too_short}
+use Rattle.batch_c.proofs.calls.scanner_scan_many.Goals.{Else-too_short}
+
+-- a cast gives a refusal's number
+cast_number : (e : Refusal) → tag_of the_type e + 1 ≡ refusal_number e
+cast_number NotUtf8 = refl
+cast_number TooLong = refl
+cast_number BadSize = refl
+cast_number NoPosition = refl
+cast_number NoLine = refl
+cast_number DoesNotFit = refl
+cast_number TableFull = refl
+cast_number ListFull = refl
+cast_number AreaFull = refl
+cast_number NoNumber = refl
+cast_number NoPair = refl
+
+refusal_some : (e : Refusal) → refusal_number e ≡ 0 → ⊥
+refusal_some e z = omega (arith, cast_number e, z)
 
 -- what the scans leave, where the slices are long enough
 module _ (src state table list area tokens answer : List ℕ) (fits : too_short (length state) state_width (length answer) 1 ≡ false)
@@ -42,32 +65,21 @@ not_short e = sym e.too_short.ensures ∙ e.if-too_short.false
 long : (e : Else-too_short) → let a = e.args in (state_width ≤ length a.state.now) × (1 ≤ length a.answer.now)
 long e = long_enough _ _ _ _ e.too_short.ensures e.if-too_short.false
 
-abbrev left : After-scan_many-ran → ManyLeft
-left c =
-    record {
-      refusal = c.scan_many-ran.result.refusal;
-      state = c.scan_many-ran.result.state;
-      table = c.scan_many-ran.new.table;
-      list = c.scan_many-ran.new.list;
-      area = c.scan_many-ran.new.area;
-      tokens = c.scan_many-ran.new.tokens;
-      count = c.scan_many-ran.result.count;
-    }
-
-left_is : (c : After-scan_many-ran)
-    → let a = c.args in left c ≡ scan_many_of a.src.now (state_in a.state.now) a.table.now a.list.now a.area.now a.tokens.now
-left_is c = rw (← c.state_in.ensures) c.scan_many-ran.ensures
-
-pub returns-then-ran-ne0 : goal.returns-then-ran-ne0
-returns-then-ran-ne0 c =
-    let a = c.args in
-    kept a.src.now a.state.now a.table.now a.list.now a.area.now a.tokens.now a.answer.now (not_short (goal.at.returns-then-ran-ne0 c).Else-too_short) (left (goal.at.returns-then-ran-ne0 c).After-scan_many-ran) (left_is (goal.at.returns-then-ran-ne0 c).After-scan_many-ran) c.if-ran-ne0.true
-
 pub bounds-answer-0 : goal.bounds-answer-0
 bounds-answer-0 c = omega (arith, (long (goal.at.bounds-answer-0 c).Else-too_short).1)
 
-pub returns : goal.returns
-returns c =
+pub returns-in-Ok : goal.returns-in-Ok
+returns-in-Ok c =
     let a = c.args in
-    rw (c.put_state.ensures, le-leb _ _ (long (goal.at.returns c).Else-too_short).0)
-    (gave a.src.now a.state.now a.table.now a.list.now a.area.now a.tokens.now a.answer.now (not_short (goal.at.returns c).Else-too_short) (left (goal.at.returns c).After-scan_many-ran) (left_is (goal.at.returns c).After-scan_many-ran) c.if-ran-ne0.false)
+    rw (c.put_state.ensures, le-leb _ _ (long (goal.at.returns-in-Ok c).Else-too_short).0)
+    (gave a.src.now a.state.now a.table.now a.list.now a.area.now a.tokens.now a.answer.now (not_short (goal.at.returns-in-Ok c).Else-too_short)
+    (many_left (state_in a.state.now) (Ok c.in-Ok.ran) c.scan_many.new.table c.scan_many.new.list c.scan_many.new.area c.scan_many.new.tokens)
+    (rw (c.state_in.ensures) at c.in-Ok.ensures) refl)
+
+pub returns-in-Err : goal.returns-in-Err
+returns-in-Err c =
+    let a = c.args in
+    rw (cast_number c.in-Err.refusal)
+    (kept a.src.now a.state.now a.table.now a.list.now a.area.now a.tokens.now a.answer.now (not_short (goal.at.returns-in-Err c).Else-too_short)
+    (many_left (state_in a.state.now) (Err c.in-Err.refusal) c.scan_many.new.table c.scan_many.new.list c.scan_many.new.area c.scan_many.new.tokens)
+    (rw (c.state_in.ensures) at c.in-Err.ensures) (refusal_some c.in-Err.refusal))

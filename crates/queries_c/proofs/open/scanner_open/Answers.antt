@@ -28,20 +28,20 @@ not_short e = sym e.too_short.ensures ∙ e.if-too_short.false
 pub bounds-answer-0 : goal.bounds-answer-0
 bounds-answer-0 c = omega (arith, (long (goal.at.bounds-answer-0 c).Else-too_short).1)
 
-pub bounds-answer-0-in-NotUtf8 : goal.bounds-answer-0-in-NotUtf8
-bounds-answer-0-in-NotUtf8 c = omega (arith, (long (goal.at.bounds-answer-0-in-NotUtf8 c).Else-too_short).1)
+pub bounds-answer-0-in-Err-NotUtf8 : goal.bounds-answer-0-in-Err-NotUtf8
+bounds-answer-0-in-Err-NotUtf8 c = omega (arith, (long (goal.at.bounds-answer-0-in-Err-NotUtf8 c).Else-too_short).1)
 
-pub returns-in-Ready : goal.returns-in-Ready
+pub returns-in-Ok : goal.returns-in-Ok
 unfolding open_numbers
-returns-in-Ready c =
-    rw (c.put_state.ensures, le-leb _ _ (long (goal.at.returns-in-Ready c).Else-too_short).0, not_short (goal.at.returns-in-Ready c).Else-too_short, ← c.open-opened.ensures, c.in-Ready.is)
+returns-in-Ok c =
+    rw (c.put_state.ensures, le-leb _ _ (long (goal.at.returns-in-Ok c).Else-too_short).0, not_short (goal.at.returns-in-Ok c).Else-too_short, ← c.open.ensures, c.in-Ok.is)
 
-pub returns-in-NotUtf8 : goal.returns-in-NotUtf8
+pub returns-in-Err-NotUtf8 : goal.returns-in-Err-NotUtf8
 unfolding open_numbers
-returns-in-NotUtf8 c =
-    rw (not_short (goal.at.returns-in-NotUtf8 c).Else-too_short, ← c.open-opened.ensures, c.in-NotUtf8.is)
+returns-in-Err-NotUtf8 c =
+    rw (not_short (goal.at.returns-in-Err-NotUtf8 c).Else-too_short, ← c.open.ensures, c.in-Err-NotUtf8.is, c.in-Err-NotUtf8.field-0-is)
 
-pub returns-in-Refused : goal.returns-in-Refused
+pub returns-in-Err-Refused : goal.returns-in-Err-Refused
 unfolding open_numbers
-returns-in-Refused c =
-    rw (not_short (goal.at.returns-in-Refused c).Else-too_short, ← c.open-opened.ensures, c.in-Refused.is)
+returns-in-Err-Refused c =
+    rw (c.number_of.ensures, not_short (goal.at.returns-in-Err-Refused c).Else-too_short, ← c.open.ensures, c.in-Err-Refused.is, c.in-Err-Refused.field-0-is)
