@@ -10,19 +10,20 @@ use native.Mathlib.Nat.{add-zero, zero-add}
 use lib.Bits.{bit_and}
 use lib.Dec.{ltb, eqb}
 use lib.ListN.{length, get_or, drop}
-use borrow.Author.Tests.{ltb-true, eqb-true, lt-ltb, le-ltb, eq-eqb, ne_eqb}
+use borrow.Author.Tests.{ltb-true, eqb-true, lt-ltb, eq-eqb, ne_eqb}
 use Rattle.basics.proofs.Choice.{same_test}
 use Rattle.basics.proofs.Every.{every_below}
 use Rattle.basics.proofs.Lists.{reach}
 use Rattle.utf8.specs.Chars.{chars}
 use Rattle.utf8.proofs.First.{chars_at, chars_end, chars_ascii}
 use Rattle.utf8.proofs.Places.{ascii_only, test_there}
+use Rattle.std.specs.Prelude.{Option, Some, None}
 use Rattle.blanks.specs.declared.Skipped.{Skipped}
 use Rattle.blanks.specs.Blank.{is_space, is_blank, Skip, nothing, before, skip, skipped_at}
 
 -- what was skipped before a place p, with k line feeds and the last line at l, and what is still skipped from there
-abbrev pub joined : ℕ → ℕ → ℕ → Skip → Skipped
-joined p k l x = record { end = p + x.len; lfs = k + x.lfs; line = cond (ltb 0 x.line) (p + x.line) l }
+abbrev pub joined : ℕ → ℕ → Option ℕ → Skip → Skipped
+joined p k l x = record { end = p + x.len; lfs = k + x.lfs; line = cond (ltb 0 x.line) (Some (p + x.line)) l }
 
 -- no character above a space is blank
 pub blank_above : (mark : Bool) (c : ℕ) → code " " < c → is_blank mark c ≡ false
@@ -82,41 +83,30 @@ unfolding is_blank is_space
 bits_say true b h = same_test _ _ (every_below (says true) 33 tt b h)
 bits_say false b h = same_test _ _ (every_below (says false) 33 tt b h)
 
-pub joined_start : (at : ℕ) (x : Skip) → skipped_at at x ≡ joined at 0 at x
-joined_start at x = go x.line
-  where
-    go : (l : ℕ) → ◌≡◌ {A = Skipped} (record { end = at + x.len; lfs = x.lfs; line = at + l }) (record { end = at + x.len; lfs = 0 + x.lfs; line = cond (ltb 0 l) (at + l) at })
-    go zero = rw (zero-add x.lfs, add-zero at)
-    go (suc l) = rw (zero-add x.lfs, lt-ltb 0 (suc l) (omega arith))
+pub joined_start : (at : ℕ) (x : Skip) → skipped_at at x ≡ joined at 0 None x
+joined_start at x = rw (zero-add x.lfs)
 
-joined_stop : (p k l : ℕ) → joined p k l nothing ≡ record { end = p; lfs = k; line = l }
+joined_stop : (p k : ℕ) (l : Option ℕ) → joined p k l nothing ≡ record { end = p; lfs = k; line = l }
 joined_stop p k l = rw (add-zero p, add-zero k)
 
-skipped_is : {e e' k k' l l' : ℕ} → e ≡ e' → k ≡ k' → l ≡ l' → ◌≡◌ {A = Skipped} (record { end = e; lfs = k; line = l }) (record { end = e'; lfs = k'; line = l' })
+skipped_is : {e e' k k' : ℕ} {l l' : Option ℕ} → e ≡ e' → k ≡ k' → l ≡ l' → ◌≡◌ {A = Skipped} (record { end = e; lfs = k; line = l }) (record { end = e'; lfs = k'; line = l' })
 skipped_is a b c = cc
 
 -- a space before
-joined_space : (p k l c : ℕ) (x : Skip) → (c ≡ code "\n" → ⊥) → joined p k l (before c x) ≡ joined (p + 1) k l x
+joined_space : (p k : ℕ) (l : Option ℕ) (c : ℕ) (x : Skip) → (c ≡ code "\n" → ⊥) → joined p k l (before c x) ≡ joined (p + 1) k l x
 joined_space p k l c x n = rw (ne_eqb c (code "\n") n) (skipped_is (omega arith) refl (go x.line))
   where
-    go : (y : ℕ) → cond (ltb 0 (cond (ltb 0 y) (suc y) 0)) (p + cond (ltb 0 y) (suc y) 0) l ≡ cond (ltb 0 y) (p + 1 + y) l
+    go : (y : ℕ) → cond (ltb 0 (cond (ltb 0 y) (suc y) 0)) (Some (p + cond (ltb 0 y) (suc y) 0)) l ≡ cond (ltb 0 y) (Some (p + 1 + y)) l
     go zero = refl
-    go (suc y) = rw (lt-ltb 0 (suc y) (omega arith), lt-ltb 0 (suc (suc y)) (omega arith)) (omega arith)
+    go (suc y) = let e : p + suc (suc y) ≡ p + 1 + suc y = omega arith in rw (lt-ltb 0 (suc y) (omega arith), lt-ltb 0 (suc (suc y)) (omega arith), e)
 
 -- a line feed before
-joined_feed : (p k l c : ℕ) (x : Skip) → c ≡ code "\n" → joined p k l (before c x) ≡ joined (p + 1) (k + 1) (p + 1) x
+joined_feed : (p k : ℕ) (l : Option ℕ) (c : ℕ) (x : Skip) → c ≡ code "\n" → joined p k l (before c x) ≡ joined (p + 1) (k + 1) (Some (p + 1)) x
 joined_feed p k l c x e = rw (eq-eqb c (code "\n") e) (skipped_is (omega arith) (omega arith) (go x.line))
   where
-    go : (y : ℕ) → cond (ltb 0 (cond (ltb 0 y) (suc y) 1)) (p + cond (ltb 0 y) (suc y) 1) l ≡ cond (ltb 0 y) (p + 1 + y) (p + 1)
+    go : (y : ℕ) → cond (ltb 0 (cond (ltb 0 y) (suc y) 1)) (Some (p + cond (ltb 0 y) (suc y) 1)) l ≡ cond (ltb 0 y) (Some (p + 1 + y)) (Some (p + 1))
     go zero = refl
-    go (suc y) = rw (lt-ltb 0 (suc y) (omega arith), lt-ltb 0 (suc (suc y)) (omega arith)) (omega arith)
-
--- the blanks y from a place p on, with no line feed before p: without one in y the last line stays at l
-pub joined_none : (p l : ℕ) (x : Skip) (y : Skipped) → y ≡ skipped_at p x → y.line ≡ p → joined p 0 l x ≡ record { end = y.end; lfs = y.lfs; line = l }
-joined_none p l x y e n = rw e (skipped_is refl (zero-add x.lfs) (rw (le-ltb 0 x.line (omega (arith, rw e at n)))))
-
-pub joined_some : (p l : ℕ) (x : Skip) (y : Skipped) → y ≡ skipped_at p x → (y.line ≡ p → ⊥) → joined p 0 l x ≡ record { end = y.end; lfs = y.lfs; line = y.line }
-joined_some p l x y e n = rw e (skipped_is refl (zero-add x.lfs) (rw (lt-ltb 0 x.line (omega (arith, rw e at n)))))
+    go (suc y) = let e : p + suc (suc y) ≡ p + 1 + suc y = omega arith in rw (lt-ltb 0 (suc y) (omega arith), lt-ltb 0 (suc (suc y)) (omega arith), e)
 
 -- ---- at a place of a text
 module _ (mark : Bool) (s : List ℕ) where
@@ -137,7 +127,7 @@ module _ (mark : Bool) (s : List ℕ) where
     unfolding skip
     skip_none h e = rw (chars_at s p h, test_there s p (is_blank mark) (blank_high mark) h, e)
 
-    module _ (k l : ℕ) where
+    module _ (k : ℕ) (l : Option ℕ) where
       pub step_end : length s ≤ p → joined p k l (from p) ≡ record { end = p; lfs = k; line = l }
       step_end h = ap (joined p k l) (skip_end h) ∙ joined_stop p k l
 
@@ -147,11 +137,11 @@ module _ (mark : Bool) (s : List ℕ) where
       pub step_space : is_blank mark (get_or s p 0) ≡ true → (get_or s p 0 ≡ code "\n" → ⊥) → joined p k l (from p) ≡ joined (p + 1) k l (from (p + 1))
       step_space e n = ap (joined p k l) (skip_one e) ∙ joined_space p k l (get_or s p 0) (from (p + 1)) n
 
-      pub step_feed : is_blank mark (get_or s p 0) ≡ true → get_or s p 0 ≡ code "\n" → joined p k l (from p) ≡ joined (p + 1) (k + 1) (p + 1) (from (p + 1))
+      pub step_feed : is_blank mark (get_or s p 0) ≡ true → get_or s p 0 ≡ code "\n" → joined p k l (from p) ≡ joined (p + 1) (k + 1) (Some (p + 1)) (from (p + 1))
       step_feed e f = ap (joined p k l) (skip_one e) ∙ joined_feed p k l (get_or s p 0) (from (p + 1)) f
 
   -- n tabs from a place on
-  pub step_tabs : (n p k l : ℕ) → ((i : ℕ) → i < n → get_or s (p + i) 0 ≡ code "\t") → joined p k l (from p) ≡ joined (p + n) k l (from (p + n))
+  pub step_tabs : (n p k : ℕ) (l : Option ℕ) → ((i : ℕ) → i < n → get_or s (p + i) 0 ≡ code "\t") → joined p k l (from p) ≡ joined (p + n) k l (from (p + n))
   step_tabs zero p k l f = rw (add-zero p)
   step_tabs (suc n) p k l f =
       let first : get_or s p 0 ≡ code "\t" = rw (add-zero p) at (f 0 (omega arith)) in

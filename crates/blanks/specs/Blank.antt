@@ -1,6 +1,6 @@
 -- Blanks: "Space, tab, CR, and LF unless "now" is set, are skipped." The mark is what 01 calls
 -- "now".
-use Rattle.std.specs.Prelude.{ℕ, suc, ◌+◌, Bool, cond, not, ◌&&◌, ◌||◌, List, [], ◌∷◌, ltb, eqb}
+use Rattle.std.specs.Prelude.{ℕ, suc, ◌+◌, Bool, cond, not, ◌&&◌, ◌||◌, List, [], ◌∷◌, ltb, eqb, Some, None}
 use Prim.Native.Char.{code}
 use Rattle.utf8.specs.declared.Char.{Char}
 use Rattle.blanks.specs.declared.Skipped.{Skipped}
@@ -35,6 +35,6 @@ unfoldable pub skip : Bool → List Char → Skip
 skip mark [] = nothing
 skip mark (c ∷ r) = cond (is_blank mark c.code) (before c.code (skip mark r)) nothing
 
--- blanks that start at a place, as the code gives them
+-- blanks that start at a place, as the code gives them; only after a line feed there is a last line
 abbrev pub skipped_at : ℕ → Skip → Skipped
-skipped_at at x = record { end = at + x.len; lfs = x.lfs; line = at + x.line }
+skipped_at at x = record { end = at + x.len; lfs = x.lfs; line = cond (ltb 0 x.line) (Some (at + x.line)) None }

@@ -7,12 +7,12 @@ ghost use Rattle.blanks.specs.Blank.{is_space, skip, skipped_at};
 ghost use Rattle.blanks.specs.Tabs.{TabsAt};
 
 // Blanks that were skipped: the place after them, how many line feeds they have, and the place
-// after the last of these, or where they start.
+// after the last of these, if there is one.
 #[derive(Clone, Copy)]
 pub struct Skipped {
     pub end: usize,
     pub lfs: usize,
-    pub line: usize,
+    pub line: Option<usize>,
 }
 
 // Is a byte a space, a tab or a CR?
@@ -24,30 +24,28 @@ pub fn is_space(b: u8) -> bool
 }
 
 // Skips blanks byte by byte. The bits of a number tell which bytes up to a space are blanks: 9 and
-// 13 (tab, CR), 32 (space), and 10 (LF). An index loop: the place where it stops is the answer,
-// also where the text ends or the start lies past it, so a `for` is no plainer.
+// 13 (tab, CR), 32 (space), and 10 (LF).
 fn skip_bytes(src: &[u8], at: usize, mark: bool) -> Skipped
     ensures { result ≡ skipped_at at (skip mark (chars (drop at src.now))) }
 {
     let blanks: u64 = if mark { 0x1_0000_2200 } else { 0x1_0000_2600 };
-    let mut p = at;
     let mut lfs = 0;
-    let mut line = at;
-    while p < src.len() {
-        let b = src[p];
+    let mut line = None;
+    for end in at..src.len() {
+        let b = src[end];
         if b > b' ' {
-            return Skipped { end: p, lfs, line };
+            return Skipped { end, lfs, line };
         }
         if (blanks >> b) & 1 == 0 {
-            return Skipped { end: p, lfs, line };
+            return Skipped { end, lfs, line };
         }
-        p += 1;
         if b == b'\n' {
             lfs += 1;
-            line = p;
+            line = Some(end + 1);
         }
     }
-    Skipped { end: p, lfs, line }
+    let end = at.max(src.len());
+    Skipped { end, lfs, line }
 }
 
 // How many of the next eight bytes are tabs, before the first other.
@@ -66,7 +64,11 @@ fn skip_line(src: &[u8], at: usize, mark: bool) -> Skipped
         let line = at + 1;
         let end = line + tabs(src, line);
         if utf8::byte(src, end) > b' ' {
-            return Skipped { end, lfs: 1, line };
+            return Skipped {
+                end,
+                lfs: 1,
+                line: Some(line),
+            };
         }
     }
     skip_bytes(src, at, mark)
@@ -87,13 +89,8 @@ pub fn skip_blanks(src: &[u8], at: usize, mark: bool) -> Skipped
         return Skipped {
             end: p,
             lfs: 0,
-            line: at,
+            line: None,
         };
     }
-    let rest = skip_line(src, p, mark);
-    Skipped {
-        end: rest.end,
-        lfs: rest.lfs,
-        line: if rest.line == p { at } else { rest.line },
-    }
+    skip_line(src, p, mark)
 }

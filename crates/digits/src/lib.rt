@@ -3,8 +3,10 @@
 
 ghost use Rattle.std.specs.Prelude.{◌≡◌};
 ghost use Rattle.digits.specs.Digit.{digit_val, is_decimal};
+ghost use Rattle.digits.specs.Base.{base_number};
 
-// The number of a hexadecimal digit, 16 for any other byte.
+// The number of a hexadecimal digit, 16 for any other byte. (No `Option`: docs/PROVED.md promises
+// this number, and a test for a digit of any base is one comparison with it.)
 #[tactic(auto, using(crate::proofs::Digits::ranges))]
 pub fn digit_val(b: u8) -> u8
     ensures { result ≡ digit_val b }
@@ -17,13 +19,22 @@ pub fn digit_val(b: u8) -> u8
     }
 }
 
-// The base of a number, `base as u8`.
+// The base of a number.
 #[derive(Clone, Copy, PartialEq, Eq)]
 pub enum Base {
     Binary = 2,
     Octal = 8,
     Decimal = 10,
     Hexadecimal = 16,
+}
+
+impl Base {
+    // The number of a base.
+    pub fn number(self) -> u8
+        ensures { result ≡ base_number self }
+    {
+        self as u8
+    }
 }
 
 pub fn is_decimal(b: u8) -> bool

@@ -1,23 +1,14 @@
 -- Laws of the layout: what is written as a record is read back, and the records before it stay.
-use Prim.Native.Nat.{ℕ, suc, ◌+◌, ◌≤◌}
+use Prim.Native.Nat.{ℕ, ◌+◌, ◌≤◌}
 use mathlib.Core.Path.{◌≡◌}
 use mathlib.Core.List.{List, [], ◌∷◌}
 use native.Mathlib.Nat.{add-zero}
 use native.Mathlib.Omega.{arith}
-use lib.ListN.{length, set}
+use lib.ListN.{length}
 use lib.Seq.{sets}
 use Rattle.errors.specs.declared.layout.Error.{Error}
 use Rattle.errors.specs.Layout.{width, numbers, record_at}
 use Rattle.basics.proofs.Sets.{get_d_sets_before, get_d_sets_in}
-
--- the numbers, written one by one
-pub sets_numbers : (l : List ℕ) (at : ℕ) (e : Error) → set (set (set (set l at e.offset) (at + 1) e.line) (at + 2) e.column) (at + 3) e.number ≡ sets l at (numbers e)
-unfolding numbers
-sets_numbers l at e =
-    let e₁ : at + 1 ≡ suc at = omega arith in
-    let e₂ : at + 2 ≡ suc (suc at) = omega arith in
-    let e₃ : at + 3 ≡ suc (suc (suc at)) = omega arith in
-    rw (e₁, e₂, e₃)
 
 pub error_written : (l : List ℕ) (at : ℕ) (e : Error) → at + width ≤ length l → record_at (sets l at (numbers e)) at ≡ e
 unfolding numbers record_at

@@ -3,3 +3,4 @@ pub mod Errors
 pub mod Answers
 pub mod Numbers
 pub mod Faults
+pub mod Numbered

@@ -3,7 +3,8 @@ ghost use Rattle.std.specs.Prelude.{◌≡◌, ◌+◌, ◌≤◌, length};
 ghost use Rattle.std.proofs.lemmas.List.Edits.{sets};
 ghost use Rattle.errors.specs.Layout.{width, numbers, record_at};
 
-// An error: where it was found, and its number.
+// An error: where it was found, and its number. (No `Fault`: a list is lent, and what `get` reads
+// of it may be any number.)
 #[derive(Clone, Copy)]
 pub struct Error {
     pub offset: usize,
@@ -20,10 +21,7 @@ pub(crate) fn write(list: &mut [usize], at: usize, error: Error)
     requires { at + width ≤ length list.old }
     ensures { list.new ≡ sets list.old at (numbers error) }
 {
-    list[at] = error.offset;
-    list[at + 1] = error.line;
-    list[at + 2] = error.column;
-    list[at + 3] = error.number;
+    list[at..at + WIDTH].copy_from_slice(&[error.offset, error.line, error.column, error.number]);
 }
 
 // The error whose record is at a place.
@@ -31,14 +29,10 @@ pub(crate) fn read(list: &[usize], at: usize) -> Error
     requires { at + width ≤ length list.now }
     ensures { result ≡ record_at list.now at }
 {
-    let offset = list[at];
-    let line = list[at + 1];
-    let column = list[at + 2];
-    let number = list[at + 3];
     Error {
-        offset,
-        line,
-        column,
-        number,
+        offset: list[at],
+        line: list[at + 1],
+        column: list[at + 2],
+        number: list[at + 3],
     }
 }

@@ -11,7 +11,7 @@ use refusal::Refusal;
 mod fault;
 mod layout;
 
-pub use fault::Fault;
+pub use fault::{Fault, UnknownFault};
 pub use layout::Error;
 
 // How many records a list holds.

@@ -15,18 +15,12 @@ pub(crate) struct EscapeDigits {
     pub(crate) value: Result<u32, Fault>,
 }
 
-fn radix_of(base: Base) -> u8
-    ensures { result ≡ base_number base }
-{
-    base as u8
-}
-
 // The value of exactly `count` digits below the base.
 pub(crate) fn digits_at(src: &[u8], at: usize, base: Base, count: usize) -> EscapeDigits
     requires { count ≤ 8 }
     ensures { digits_said result ≡ whole (escape_digits (base_number base) count 0 (chars (drop at src.now))) }
 {
-    let radix = radix_of(base);
+    let radix = base.number();
     let mut value: u32 = 0;
     for len in 0..count {
         let Some(&b) = src.get(at + len) else {

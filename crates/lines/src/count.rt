@@ -22,7 +22,7 @@ pub fn count_starts(src: &[u8], at: usize, count: usize, offset: usize, size: us
         }
         let b = src[p];
         o += 1;
-        p = step::next_place(src, p);
+        p = utf8::next_place(src, p);
         if b == b'\n' {
             n += 1;
         }

@@ -35,7 +35,7 @@ pub fn write_starts(
         }
         let b = src[p];
         o += 1;
-        p = step::next_place(src, p);
+        p = utf8::next_place(src, p);
         if b == b'\n' {
             if table.len() <= n {
                 return;

@@ -18,7 +18,7 @@ pub(crate) struct Misplaced {
 fn is_digit(b: u8, base: Base) -> bool
     ensures { result ≡ ltb (digit_val b) (base_number base) }
 {
-    digits::digit_val(b) < base as u8
+    digits::digit_val(b) < base.number()
 }
 
 // The place after a run, unless an underscore is misplaced there.

@@ -5,6 +5,6 @@ mod layout;
 mod part;
 mod token;
 
-pub use layout::put_token;
+pub use layout::{part_in, put_token};
 pub use part::{Part, shown};
 pub use token::{Token, text, value};

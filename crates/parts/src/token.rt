@@ -8,6 +8,8 @@ use refusal::Refusal;
 
 #[derive(Clone, Copy)]
 pub struct Token {
+    // a number and no `Kind`: docs/PROVED.md promises what `put_token`, `text` and `value` do with
+    // any number
     pub kind: u8,
     // a semicolon that is not in the text
     pub inserted: bool,
@@ -20,8 +22,12 @@ pub struct Token {
 }
 
 impl Token {
-    // How many numbers a token is.
+    // How many numbers a token is, and from where on the parts of its text and value are.
     pub const NUMBERS: usize = 10;
+
+    pub const TEXT: usize = 4;
+
+    pub const VALUE: usize = 7;
 }
 
 // Give these two the source that was scanned, and the area as the token's own scan left it.

@@ -6,7 +6,7 @@ ghost use Rattle.quantity.specs.Text.{digits_of};
 ghost use Rattle.quantity.specs.Whole.{capped};
 ghost use Rattle.quantity.specs.Figures.{Stripped};
 
-use crate::whole::{added, number, scaled};
+use crate::whole::{added, scaled};
 use digits::Base;
 
 // The digits of a number without the zeros that end it, and how many zeros those are.
@@ -33,7 +33,7 @@ fn appended(m: u64, base: Base, n: u64, d: u64) -> Option<u64>
 pub(crate) fn read_figures(text: &[u8], base: Base) -> Option<Figures>
     ensures { Stripped (base_number base) (digits_of (base_number base) text.now) (length text.now) result }
 {
-    let below = number(base);
+    let below = u64::from(base.number());
     let mut m = 0;
     let mut zeros = 0;
     for b in text {

@@ -7,12 +7,6 @@ ghost use Rattle.quantity.specs.Whole.{capped};
 use crate::figures::{Figures, read_figures};
 use digits::Base;
 
-pub(crate) fn number(base: Base) -> u64
-    ensures { result ≡ base_number base }
-{
-    base as u64
-}
-
 // m * base^n, if 64 bits hold it.
 pub(crate) fn scaled(m: u64, base: Base, n: u64) -> Option<u64>
     ensures { result ≡ capped (m * base_number base ^ n) }
@@ -24,7 +18,8 @@ pub(crate) fn scaled(m: u64, base: Base, n: u64) -> Option<u64>
     if 64 <= n {
         return None;
     }
-    number(base).checked_pow(n as u32)?.checked_mul(m)
+    u64::from(base.number())
+        .checked_pow(n as u32)?.checked_mul(m)
 }
 
 // a + x, if 64 bits hold x and the sum.

@@ -15,13 +15,6 @@ pub struct Reader<'a> {
     pub place: usize,
 }
 
-// The place after the character at a place. At the end, and past it, the place itself.
-fn next_place(src: &[u8], place: usize) -> usize
-    ensures { result ≡ read_place src.now place }
-{
-    place + utf8::char_at(src, place).width
-}
-
 pub fn reader_at<'a>(src: &'a [u8], place: usize) -> Reader<'a>
     ensures { (result.src ≡ src.entry) × (result.place ≡ place) }
 {
@@ -35,13 +28,14 @@ pub fn peek_char<'a>(r: Reader<'a>) -> Char
     utf8::char_at(r.src, r.place)
 }
 
-// The reader after the next character.
+// The reader after the next character; at the end it stays.
+#[tactic(auto, unfolding(crate::specs::Read::read_place))]
 pub fn read_char<'a>(r: Reader<'a>) -> Reader<'a>
     ensures { (result.src ≡ r.entry.src) × (result.place ≡ read_place r.entry.src.now r.entry.place) }
 {
     Reader {
         src: r.src,
-        place: next_place(r.src, r.place),
+        place: utf8::next_place(r.src, r.place),
     }
 }
 

@@ -3,9 +3,12 @@
 
 mod short;
 
+ghost use Rattle.std.specs.Prelude.{◌≡◌};
+ghost use Rattle.refusal.specs.Outcome.{refusal_number};
+
 pub use short::too_short;
 
-// Why a call is refused. The number of a refusal is `refusal as u8`.
+// Why a call is refused.
 #[derive(Clone, Copy, PartialEq, Eq)]
 pub enum Refusal {
     // ---- From the input.
@@ -35,4 +38,14 @@ pub enum Refusal {
     NoNumber,
     // No m below 2^64 and k up to 18 for the number behind a literal.
     NoPair,
+}
+
+impl Refusal {
+    // The number of a refusal, for C and for the listing in numbers. It is never 0.
+    #[tactic(auto, using(crate::proofs::Numbers::refusal_tag))]
+    pub fn number(self) -> u8
+        ensures { result ≡ refusal_number self }
+    {
+        self as u8
+    }
 }

@@ -13,7 +13,7 @@ pub fn bit_of(b: bool) -> usize
 }
 
 // The number at an index, or 0 after the last.
-fn number_at(n: &[usize], at: usize) -> usize
+pub fn number_at(n: &[usize], at: usize) -> usize
     ensures { result ≡ get_or n.now at 0 }
 {
     n.get(at).copied().unwrap_or(0)

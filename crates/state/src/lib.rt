@@ -5,5 +5,5 @@
 mod layout;
 mod state;
 
-pub use layout::{bit_of, put_state, state_in};
+pub use layout::{bit_of, number_at, put_state, state_in};
 pub use state::State;

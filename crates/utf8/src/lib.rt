@@ -3,7 +3,7 @@
 
 mod sequence;
 
-ghost use Rattle.std.specs.Prelude.{◌≡◌};
+ghost use Rattle.std.specs.Prelude.{◌≡◌, ◌+◌};
 ghost use Rattle.utf8.specs.Chars.{char_at, is_stray};
 
 pub use sequence::{byte, sequence_len};
@@ -33,6 +33,17 @@ pub fn char_at(s: &[u8], at: usize) -> Char
         sequence::byte(s, at + 2),
         sequence::byte(s, at + 3),
     )
+}
+
+// The place after the character at a place; at the end, and past it, the place itself. Most
+// characters are ASCII: of those only the byte is looked at.
+pub fn next_place(s: &[u8], at: usize) -> usize
+    ensures { result ≡ at + (char_at s.now at).width }
+{
+    if at < s.len() && s[at] < 0x80 {
+        return at + 1;
+    }
+    at + char_at(s, at).width
 }
 
 // Is a character a byte that starts no well-formed one?

@@ -10,17 +10,17 @@ use Rattle.utf8.specs.Chars.{chars}
 use Rattle.blanks.specs.Blank.{is_blank, skip}
 use Rattle.blanks.proofs.Blanks.{joined_start, blank_above, bits, bits_say, step_end, step_none, step_space, step_feed}
 use Rattle.blanks.proofs.skip_bytes.Goals as goal
-use Rattle.blanks.proofs.skip_bytes.Goals.{Else-b-gt32, else-mark, then-mark}
+use Rattle.blanks.proofs.skip_bytes.Goals.{Else-b-gt32, else-mark, then-mark, then-b-eq10, else-b-eq10}
 
-pub loop-p-init : goal.loop-p-init
-loop-p-init c =
+pub loop-end-init : goal.loop-end-init
+loop-end-init c =
     let a = c.args in
-    (omega arith, joined_start a.at (skip a.mark (chars (drop a.at a.src.now))))
+    record { few = omega arith; inside = omega arith; same = joined_start a.at (skip a.mark (chars (drop a.at a.src.now))) }
 
 pub returns-then-b-gt32 : goal.returns-then-b-gt32
 returns-then-b-gt32 c =
     let a = c.args in
-    sym (c.loop-p.invariant.1 ∙ step_none a.mark a.src.now c.loop-p.p c.loop-p.lfs c.loop-p.line (blank_above a.mark _ c.if-b-gt32.true))
+    sym (c.loop-end.invariant.same ∙ step_none a.mark a.src.now c.loop-end.end c.loop-end.lfs c.loop-end.line (blank_above a.mark _ c.if-b-gt32.true))
 
 -- the number whose bits are tested
 number : (c : Else-b-gt32) → c.if-mark.blanks ≡ bits c.args.mark
@@ -32,7 +32,7 @@ module _ (c : Else-b-gt32) where
   mark = c.args.mark
 
   abbrev byte : ℕ
-  byte = get_or c.args.src.now c.loop-p.p 0
+  byte = get_or c.args.src.now c.loop-end.end 0
 
   bit : eqb (bit_and (c.if-mark.blanks / 2 ^ byte) 1) 0 ≡ not (is_blank mark byte)
   bit = ap (λ x. eqb (bit_and (x / 2 ^ byte) 1) 0) (number c) ∙ bits_say mark byte (omega arith)
@@ -40,23 +40,29 @@ module _ (c : Else-b-gt32) where
 pub returns-then-blanks-b-eq0 : goal.returns-then-blanks-b-eq0
 returns-then-blanks-b-eq0 c =
     let a = c.args in
-    sym (c.loop-p.invariant.1 ∙ step_none a.mark a.src.now c.loop-p.p c.loop-p.lfs c.loop-p.line (not-true _ (sym (bit (goal.at.returns-then-blanks-b-eq0 c).Else-b-gt32) ∙ eq-eqb _ _ c.if-blanks-b-eq0.true)))
+    sym (c.loop-end.invariant.same ∙ step_none a.mark a.src.now c.loop-end.end c.loop-end.lfs c.loop-end.line (not-true _ (sym (bit (goal.at.returns-then-blanks-b-eq0 c).Else-b-gt32) ∙ eq-eqb _ _ c.if-blanks-b-eq0.true)))
 
-pub loop-p-preserved-then-b-eq10 : goal.loop-p-preserved-then-b-eq10
-loop-p-preserved-then-b-eq10 c =
-    let a = c.args in (
-      omega arith,
-      c.loop-p.invariant.1 ∙ step_feed a.mark a.src.now c.loop-p.p c.loop-p.lfs c.loop-p.line (not-false _ (sym (bit (goal.at.loop-p-preserved-then-b-eq10 c).Else-b-gt32) ∙ ne_eqb _ _ c.if-blanks-b-eq0.false)) c.if-b-eq10.true,
-    )
-
-pub loop-p-preserved : goal.loop-p-preserved
-loop-p-preserved c =
-    let a = c.args in (
-      omega arith,
-      c.loop-p.invariant.1 ∙ step_space a.mark a.src.now c.loop-p.p c.loop-p.lfs c.loop-p.line (not-false _ (sym (bit (goal.at.loop-p-preserved c).Else-b-gt32) ∙ ne_eqb _ _ c.if-blanks-b-eq0.false)) c.if-b-eq10.false,
-    )
+pub loop-end-preserved : goal.loop-end-preserved
+loop-end-preserved c =
+    let l = c.loop-end in
+    let s = c.args.src.now in
+    let e = goal.at.loop-end-preserved c in
+    let blank = not-false _ (sym (bit e.Else-b-gt32) ∙ ne_eqb _ _ c.if-blanks-b-eq0.false) in
+    elim c.if-b-eq10.branch [
+      | then-b-eq10 w ↦ record {
+        few = omega (arith, l.invariant.few, w.lfs-is);
+        inside = omega arith;
+        same = rw (w.lfs-is, w.line-is) (l.invariant.same ∙ step_feed c.args.mark s l.end l.lfs l.line blank w.if-b-eq10.true);
+      }
+      | else-b-eq10 w ↦ record {
+        few = omega (arith, l.invariant.few, w.lfs-is);
+        inside = omega arith;
+        same = rw (w.lfs-is, w.line-is) (l.invariant.same ∙ step_space c.args.mark s l.end l.lfs l.line blank w.if-b-eq10.false);
+      }
+    ]
 
 pub returns : goal.returns
 returns c =
-    let a = c.args in
-    sym (c.loop-p.invariant.1 ∙ step_end a.mark a.src.now c.loop-p.p c.loop-p.lfs c.loop-p.line c.loop-p-test.false)
+    let l = c.loop-end in
+    let e : c.max-end.result ≡ l.end = omega (arith, c.max-end.ensures, l.invariant.inside, l.auto.end, c.loop-end-test.false) in
+    rw e (sym (l.invariant.same ∙ step_end c.args.mark c.args.src.now l.end l.lfs l.line c.loop-end-test.false))

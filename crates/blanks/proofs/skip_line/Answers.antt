@@ -7,6 +7,7 @@ use native.Mathlib.Omega.{arith}
 use borrow.Author.Tests.{not-true, eqb-true}
 use lib.Dec.{eqb}
 use lib.ListN.{length, get_or}
+use Rattle.std.specs.Prelude.{Some, None}
 use Rattle.basics.proofs.Choice.{and_split}
 use Rattle.basics.proofs.Lists.{reach}
 use Rattle.blanks.specs.Blank.{is_blank}
@@ -38,7 +39,7 @@ returns-then-byte-gt32 c =
     let blank : is_blank a.mark (get_or a.src.now a.at 0) ≡ true = rw (feed (goal.at.returns-then-byte-gt32 c).Then-byte-mark, not-true a.mark (tests (goal.at.returns-then-byte-gt32 c).Then-byte-mark).1) feed_blank in
     sym (
     joined_start a.at (from a.mark a.src.now a.at)
-    ∙ step_feed a.mark a.src.now a.at 0 a.at blank (feed (goal.at.returns-then-byte-gt32 c).Then-byte-mark)
-    ∙ step_tabs a.mark a.src.now n (a.at + 1) 1 (a.at + 1) c.tabs.ensures.each
-    ∙ step_none a.mark a.src.now (a.at + 1 + n) 1 (a.at + 1) (blank_above a.mark _ (rw c.byte-then-byte-mark.ensures at c.if-byte-gt32.true))
+    ∙ step_feed a.mark a.src.now a.at 0 None blank (feed (goal.at.returns-then-byte-gt32 c).Then-byte-mark)
+    ∙ step_tabs a.mark a.src.now n (a.at + 1) 1 (Some (a.at + 1)) c.tabs.ensures.each
+    ∙ step_none a.mark a.src.now (a.at + 1 + n) 1 (Some (a.at + 1)) (blank_above a.mark _ (rw c.byte-then-byte-mark.ensures at c.if-byte-gt32.true))
     )

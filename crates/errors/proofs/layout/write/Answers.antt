@@ -1,17 +1,16 @@
--- `layout::write` meets its contract: the numbers are written one by one, in the layout's order.
+-- `layout::write` meets its contract: the part of the list that is written is the record.
+use Prim.Native.Nat.{◌+◌, ◌-◌}
+use mathlib.Core.Path.{◌≡◌, ap, ◌∙◌}
 use native.Mathlib.Omega.{arith}
-use lib.ListN.{length-set}
-use Rattle.errors.proofs.Records.{sets_numbers}
+use borrow.Rule.Slice.PartMut.{put_mid}
+use Rattle.errors.specs.Layout.{width, numbers}
+use Rattle.basics.proofs.Sets.{part_set}
 use Rattle.errors.proofs.layout.write.Goals as goal
 
-pub bounds-list-at-2 : goal.bounds-list-at-2
-bounds-list-at-2 c = simp length-set (omega arith)
-
-pub bounds-list-at-3 : goal.bounds-list-at-3
-bounds-list-at-3 c = simp length-set (omega arith)
-
-pub bounds-list-at-4 : goal.bounds-list-at-4
-bounds-list-at-4 c = simp length-set (omega arith)
-
 pub returns : goal.returns
-returns c = sets_numbers _ _ _
+unfolding numbers
+returns c =
+    let a = c.args in
+    let four : a.at + width - a.at ≡ width = omega arith in
+    ap (λ vs. put_mid a.at (a.at + width - a.at) a.list.now vs) (c.copy_from_slice.ensures.after)
+    ∙ part_set a.list.now a.at (a.at + width - a.at) (numbers a.error) four c.requires

@@ -30,13 +30,13 @@ returns-then-radix-d c =
     let a = c.args in
     let l = c.loop-len in
     let i = digit_is (goal.at.returns-then-radix-d c).In-Some in
-    let d : base_number a.base ≤ digit_val (get_or a.src.now (a.at + l.len) 0) = omega (arith, i, c.digit_val-d.ensures, c.radix_of-radix.ensures) in
+    let d : base_number a.base ≤ digit_val (get_or a.src.now (a.at + l.len) 0) = omega (arith, i, c.digit_val-d.ensures, c.number-radix.ensures) in
     ap whole (sym (l.invariant.2 ∙ ap (grown l.len) (next_off (base_number a.base) a.count a.src.now a.at l.len l.value c.loop-len-test.true c.in-Some.ensures.lookup.3.0 d) ∙ grown_stop _ _ _))
 
 -- with one digit more the value fits
-fits : (c : Else-radix-d) → c.loop-len.value * c.radix_of-radix.result + c.digit_val-d.result < 4294967296
+fits : (c : Else-radix-d) → c.loop-len.value * c.number-radix.result + c.digit_val-d.result < 4294967296
 fits c =
-    room c.loop-len.value c.radix_of-radix.result c.digit_val-d.result c.loop-len.len c.loop-len.invariant.1 (omega arith) (omega (arith, base_most c.args.base, c.radix_of-radix.ensures)) c.if-radix-d.false
+    room c.loop-len.value c.number-radix.result c.digit_val-d.result c.loop-len.len c.loop-len.invariant.1 (omega arith) (omega (arith, base_most c.args.base, c.number-radix.ensures)) c.if-radix-d.false
 
 pub overflow_mul-value : goal.overflow_mul-value
 overflow_mul-value c = record { fits = omega (arith, fits c) }
@@ -50,12 +50,12 @@ loop-len-preserved c =
     let l = c.loop-len in
     let b = base_number a.base in
     let most = base_most a.base in
-    let r = c.radix_of-radix.ensures in
+    let r = c.number-radix.ensures in
     let v = c.digit_val-d.ensures in
     let i = digit_is (goal.at.loop-len-preserved c).In-Some in
     let d : digit_val (get_or a.src.now (a.at + l.len) 0) < b = omega (arith, i, v, r) in (
       omega (arith, c.in-Some.ensures.lookup.3.0, c.well_formed.0.1),
-      grow l.value c.radix_of-radix.result c.digit_val-d.result l.len l.invariant.1 (omega arith) c.if-radix-d.false,
+      grow l.value c.number-radix.result c.digit_val-d.result l.len l.invariant.1 (omega arith) c.if-radix-d.false,
       rw (r, v, i)
           (l.invariant.2
           ∙ ap (grown l.len) (next_digit b a.count a.src.now a.at l.len l.value c.loop-len-test.true c.in-Some.ensures.lookup.3.0 d most)
