@@ -10,8 +10,6 @@
 //   X parts of the source and of the area, T the table
 #![tactic(auto)]
 
-ghost use Rattle.std.specs.Prelude.{◌≤◌, length};
-
 mod cases;
 mod machine;
 mod places;
@@ -20,8 +18,10 @@ mod scans;
 mod show;
 mod texts;
 
+use arrayvec::ArrayVec;
 use cases::Reader;
 use show::Output;
+use std::io;
 use std::io::Read;
 
 // The byte that a byte of the cases stands for.
@@ -45,21 +45,6 @@ fn replace_bytes(cases: &mut [u8]) {
     }
 }
 
-// Reads until the buffer is full, the input ends or a read fails; gives the number of bytes.
-fn read_full(input: &mut impl Read, buffer: &mut [u8]) -> usize
-    ensures { result ≤ length buffer.new }
-{
-    let mut read = 0;
-    // An index loop: a step goes over as many bytes as one read gives, so no `for` fits.
-    while read < buffer.len() {
-        match input.read(&mut buffer[read..]) {
-            Ok(0) | Err(_) => break,
-            Ok(n) => read += n,
-        }
-    }
-    read
-}
-
 fn run(cases: &mut [u8], out: Output) {
     replace_bytes(cases);
     let mut reader = Reader::new(out);
@@ -68,8 +53,12 @@ fn run(cases: &mut [u8], out: Output) {
     }
 }
 
+// The most bytes that the cases have.
+const MOST_BYTES: usize = 16_384;
+
+// A read that fails ends the cases.
 fn main(rt: HostRuntime) {
-    let mut cases = [0u8; 16384];
-    let n = read_full(&mut rt.stdin(), &mut cases);
-    run(&mut cases[..n], Output(rt.stdout()));
+    let mut cases = ArrayVec::<u8, MOST_BYTES>::new();
+    let _ = io::copy(&mut rt.stdin().take(MOST_BYTES as u64), &mut cases);
+    run(cases.as_mut_slice(), Output(rt.stdout()));
 }

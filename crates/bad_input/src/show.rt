@@ -72,7 +72,7 @@ impl<T: Show, E: Show> Show for Result<T, E> {
 
 impl Show for Refusal {
     fn show(self, out: Output) {
-        out.text(format_args!(" refused {}", self as u8));
+        out.text(format_args!(" refused {}", self.number()));
     }
 }
 

@@ -24,7 +24,7 @@ pub extern "C" fn scanner_scan_many(
         ≡ scan_many_numbers src.now state.old table.old list.old area.old tokens.old answer.old }
 {
     if too_short(state.len(), State::NUMBERS, answer.len(), 1) {
-        return Refusal::DoesNotFit as u8;
+        return Refusal::DoesNotFit.number();
     }
     match batch::scan_many(src, state_in(state), table, list, area, tokens) {
         Ok(ran) => {
@@ -32,6 +32,6 @@ pub extern "C" fn scanner_scan_many(
             put_state(ran.state, state);
             0
         }
-        Err(refusal) => refusal as u8,
+        Err(refusal) => refusal.number(),
     }
 }

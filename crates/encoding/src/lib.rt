@@ -5,7 +5,8 @@ ghost use Rattle.std.specs.Prelude.{◌≡◌, length, get_or};
 ghost use Rattle.utf8.specs.Chars.{encode};
 ghost use Rattle.encoding.specs.Steps.{digit, lead};
 
-// How many bytes a code is written in, 0 where it is no Unicode scalar value.
+// How many bytes a code is written in, 0 where it is no Unicode scalar value. (No `Option`: it is
+// the length of the bytes that docs/DECISIONS.md gives such a code, which are none.)
 #[tactic(auto, using(crate::proofs::Written::lengths))]
 pub fn encoded_len(code: u32) -> usize
     ensures { result ≡ length (encode code) }

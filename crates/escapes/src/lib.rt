@@ -1,4 +1,6 @@
 // Escapes: what follows a backslash in a quoted literal.
+// (A source and a place stay two parameters, as docs/PROVED.md promises: a struct of both would be
+// named in each contract and each call, and is no plainer.)
 #![tactic(auto)]
 
 mod escape;

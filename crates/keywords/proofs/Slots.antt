@@ -45,7 +45,7 @@ module _ (f : ℕ → ℕ) where
 plus_mod : (n m : ℕ) → (n % 64 + m) % 64 ≡ (n + m) % 64
 plus_mod n m = omega arith
 
--- the slot as kind_in has it
+-- the slot as the code has it
 pub slot_reduced : (number n : ℕ) → (n % 64 + (number % 256 * 8 + number / 256 % 256 * 59)) % 64 ≡ slot_of number n
 unfolding slot_of
 slot_reduced number n =
@@ -63,7 +63,7 @@ module _ (numbers kinds : List ℕ) (number n slot : ℕ) (e : slot ≡ slot_of 
       let h : eqb (get_or numbers (slot_of number n) 0) number ≡ false = rw e at (ne_eqb _ _ f) in
       rw h
 
-slot_small : (number n : ℕ) → slot_of number n < 64
+pub slot_small : (number n : ℕ) → slot_of number n < 64
 unfolding slot_of
 slot_small number n = omega arith
 

@@ -56,15 +56,14 @@ struct Row(Kind, u64);
 
 // The slot of a word by its length and its first two bytes: no two keywords of at most eight bytes
 // share one.
-fn slot_of(number: u64, n: usize) -> u64
-    requires { n ≤ 8 }
+fn slot_of(number: u64, n: usize) -> usize
     ensures { result ≡ slot_of number n }
 {
-    (n as u64 + number % 256 * 8 + number / 256 % 256 * 59) % 64
+    (n % 64 + (number % 256 * 8 + number / 256 % 256 * 59) as usize) % 64
 }
 
 // The keyword in a slot. (A match becomes a constant table; an array would be built at each call.)
-fn row_in(slot: u64) -> Row
+fn row_in(slot: usize) -> Row
     ensures { pair (kind_number result.0) result.1 ≡ row_in slot keywords }
 {
     match slot {
@@ -114,14 +113,14 @@ pub fn ident_token(text: &[u8], len: usize) -> Kind
 pub fn keyword_numbers() -> [u64; 64]
     ensures { result ≡ by_slot (λ slot. (row_in slot keywords).1) }
 {
-    array::from_fn(|slot| row_in(slot as u64).1)
+    array::from_fn(|slot| row_in(slot).1)
 }
 
 // Their kinds as numbers, each in its slot; IDENT where there is none.
 pub fn keyword_kinds() -> [u8; 64]
     ensures { result ≡ by_slot (λ slot. (row_in slot keywords).0) }
 {
-    array::from_fn(|slot| row_in(slot as u64).0 as u8)
+    array::from_fn(|slot| row_in(slot).0 as u8)
 }
 
 // The kind of a word of n bytes by two such tables and the number that the word is. The tables may
@@ -129,7 +128,7 @@ pub fn keyword_kinds() -> [u8; 64]
 pub fn kind_in(numbers: &[u64; 64], kinds: &[u8; 64], number: u64, n: usize) -> u8
     ensures { result ≡ kind_in numbers.now kinds.now number n }
 {
-    let slot = (n % 64 + (number % 256 * 8 + number / 256 % 256 * 59) as usize) % 64;
+    let slot = slot_of(number, n);
     let kind = kinds[slot];
     if numbers[slot] == number {
         kind

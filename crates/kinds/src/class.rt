@@ -25,7 +25,8 @@ pub fn is_keyword(kind: u8) -> bool
     (Kind::Break as u8..=Kind::Var as u8).contains(&kind)
 }
 
-// The precedence of a binary operator, 5 the highest; 0 of every other kind.
+// The precedence of a binary operator, 5 the highest; 0 of every other kind. (No `Option`:
+// docs/PROVED.md promises this number, and Go's own scanner calls 0 the lowest precedence.)
 pub fn precedence(kind: u8) -> usize
     ensures { result ≡ precedence_of kind }
 {

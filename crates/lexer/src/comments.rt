@@ -48,6 +48,9 @@ pub(crate) fn lex_raw(src: &[u8], at: usize) -> Lexed
     Lexed { error, value, ..x }
 }
 
+// What is known of the bytes at the place is asked by each function, as in `lex`: a type for a
+// place that holds a slash would be named in each contract and each call, and is no plainer.
+
 // The line comment at a place that holds two slashes; one that is not closed gains a line feed.
 fn line_comment(src: &[u8], at: usize, mark: bool) -> Lexed
     requires { (get_or src.now at 0 ≡ code "/") × (get_or src.now (at + 1) 0 ≡ code "/") }

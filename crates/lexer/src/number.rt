@@ -13,11 +13,7 @@ use numbers::Spelling;
 fn gained(spelling: Spelling) -> usize
     ensures { result ≡ gained_by spelling }
 {
-    if matches!(spelling, Spelling::OctalPrefix) {
-        1
-    } else {
-        0
-    }
+    usize::from(matches!(spelling, Spelling::OctalPrefix))
 }
 
 // Is the text of a number other than what was read?

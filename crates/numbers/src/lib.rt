@@ -1,4 +1,6 @@
 // Numbers: decimal, binary, octal and hexadecimal integers, decimal floats, and imaginary ones.
+// (A source and a place stay two parameters, as docs/PROVED.md promises: a struct of both would be
+// named in each contract and each call, and is no plainer.)
 #![tactic(auto)]
 
 mod run;

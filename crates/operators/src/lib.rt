@@ -1,4 +1,6 @@
 // Operators and delimiters: the longest one of the table of spellings.
+// (A source and a place stay two parameters, as docs/PROVED.md promises: a struct of both would be
+// named in each contract and each call, and is no plainer.)
 #![tactic(auto)]
 
 ghost use Rattle.std.specs.Prelude.{◌≡◌, drop};
@@ -94,7 +96,8 @@ fn scan_period(b: u8, c: u8) -> Operator
     op(Kind::Ellipsis, 3)
 }
 
-// The operator at a place; where there is none, ILLEGAL of no characters.
+// The operator at a place; where there is none, ILLEGAL of no characters. (No `Option`:
+// docs/PROVED.md promises this answer, and it is what the lexer goes on with.)
 pub fn scan_operator(src: &[u8], at: usize) -> Operator
     ensures { operator_said result ≡ operator_of (chars (drop at src.now)) }
 {

@@ -19,7 +19,8 @@ pub(crate) fn scaled(m: u64, base: Base, n: u64) -> Option<u64>
         return None;
     }
     u64::from(base.number())
-        .checked_pow(n as u32)?.checked_mul(m)
+        .checked_pow(n as u32)?
+        .checked_mul(m)
 }
 
 // a + x, if 64 bits hold x and the sum.

@@ -5,12 +5,11 @@
 
 ghost use Rattle.std.specs.Prelude.{◌≡◌, ◌≤◌, length};
 ghost use Rattle.std.proofs.lemmas.List.Edits.{sets};
-ghost use Rattle.parts.specs.Layout.{token_width, text_at, part_in};
 ghost use Rattle.quantity_c.specs.Number.{quantity_numbers, number_numbers};
 ghost use Rattle.quantity_c.specs.Steps.{kind_of};
 
 use kinds::Kind;
-use parts::{Part, Token};
+use parts::{Token, part_in};
 use quantity::Quantity;
 use refusal::{Refusal, too_short};
 
@@ -22,18 +21,6 @@ fn kind_of(n: usize) -> u8
     ensures { result ≡ kind_of n }
 {
     u8::try_from(n).unwrap_or(Kind::None as u8)
-}
-
-// The part that the text of a token is; any number but 0 says that it is one of the area.
-fn text_in(token: &[usize]) -> Part
-    requires { token_width ≤ length token.now }
-    ensures { result ≡ part_in token.now text_at }
-{
-    Part {
-        area: token[4] != 0,
-        start: token[5],
-        end: token[6],
-    }
 }
 
 // Writes a quantity to the front of a slice.
@@ -58,13 +45,13 @@ pub extern "C" fn scanner_number<'a>(
         ≡ number_numbers src.now area.now token.now answer.old }
 {
     if too_short(token.len(), Token::NUMBERS, answer.len(), QUANTITY) {
-        return Refusal::DoesNotFit as u8;
+        return Refusal::DoesNotFit.number();
     }
-    match quantity_query::number(src, area, kind_of(token[0]), text_in(token)) {
+    match quantity_query::number(src, area, kind_of(token[0]), part_in(token, Token::TEXT)) {
         Ok(q) => {
             put_quantity(q, answer);
             0
         }
-        Err(refusal) => refusal as u8,
+        Err(refusal) => refusal.number(),
     }
 }

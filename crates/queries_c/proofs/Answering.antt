@@ -5,19 +5,18 @@ use Rattle.std.specs.Borrow.{Bor}
 use mathlib.Core.Path.{◌≡◌, refl, ap, ◌∙◌}
 use mathlib.Core.Bool.{Bool, true, false, cond, ◌&&◌}
 use mathlib.Core.List.{List}
-use native.Mathlib.Omega.{arith}
 use lib.Dec.{leb}
 use lib.ListN.{length}
 use Rattle.refusal.specs.declared.Refusal.{Refusal}
-use Rattle.refusal.specs.declared.Refusal.TheVariants.{NotUtf8, TooLong, BadSize, NoPosition, NoLine, DoesNotFit, TableFull, ListFull, AreaFull, NoNumber, NoPair}
 use Rattle.refusal.specs.Outcome.{outcome_of, refusal_number}
+use Rattle.refusal.proofs.Numbers.{refusal_some}
 use Rattle.errors.specs.declared.layout.Error.{Error}
 use Rattle.errors.specs.Layout.{numbers}
 use Rattle.errors.specs.Answers.{got}
 use Rattle.parts.specs.declared.part.Part.{Part}
 use Rattle.parts.specs.Shown.{Shown, shown_in, shown_of, shown_as}
 use Rattle.parts.specs.Layout.{part_numbers}
-use Rattle.queries_c.specs.Asked.{answered_by}
+use Rattle.refusal.specs.Asked.{answered_by}
 use Rattle.queries_c.specs.Questions.{error_or}
 use Rattle.queries_c.specs.Steps.{optional_numbers}
 use Rattle.queries_c.specs.Parts.{in_buffer}
@@ -33,19 +32,6 @@ found (Ok None) answer = refl
 found (Err e) answer = refl
 
 -- ---- a part that is not shown is refused by 6
-
-some_number : (r : Refusal) → refusal_number r ≡ 0 → ⊥
-some_number NotUtf8 e = omega arith
-some_number TooLong e = omega arith
-some_number BadSize e = omega arith
-some_number NoPosition e = omega arith
-some_number NoLine e = omega arith
-some_number DoesNotFit e = omega arith
-some_number TableFull e = omega arith
-some_number ListFull e = omega arith
-some_number AreaFull e = omega arith
-some_number NoNumber e = omega arith
-some_number NoPair e = omega arith
 
 abbrev BySix : Shown → Type 0
 BySix s = (s.refusal ≡ 0 → ⊥) → s.refusal ≡ 6
@@ -66,5 +52,5 @@ pub part_shown : (src area : List ℕ) (p : Part) (o : Result (Bor (List ℕ)) R
 part_shown src area p (Ok b) e answer = rw (← e)
 part_shown src area p (Err r) e answer =
     let n : refusal_number r ≡ (shown_of src area p).refusal = ap (λ (s : Shown). s.refusal) e in
-    let six : (shown_of src area p).refusal ≡ 6 = by_six src area p (λ z. some_number r (n ∙ z)) in
+    let six : (shown_of src area p).refusal ≡ 6 = by_six src area p (λ z. refusal_some r (n ∙ z)) in
     rw (n, six)

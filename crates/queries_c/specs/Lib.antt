@@ -1,4 +1,3 @@
-pub mod Asked
 pub mod Open
 pub mod Parts
 pub mod Questions

@@ -6,7 +6,7 @@ use Rattle.refusal.specs.Refusals.{DOES_NOT_FIT}
 use Rattle.parts.specs.declared.part.Part.{Part}
 use Rattle.parts.specs.Shown.{shown_of}
 use Rattle.parts.specs.Layout.{part_width, part_in, part_numbers, token_width, text_at, value_at}
-use Rattle.queries_c.specs.Asked.{Answered, asked}
+use Rattle.refusal.specs.Asked.{Answered, asked}
 
 -- a part that lies in its buffer; "a token's part outside its buffer" is refused with 6
 abbrev pub in_buffer : List ℕ → List ℕ → Part → Outcome Part

@@ -6,7 +6,7 @@ use Rattle.errors.specs.declared.layout.Error.{Error}
 use Rattle.errors.specs.Layout.{width, numbers}
 use Rattle.state.specs.Layout.{state_width, state_in}
 use Rattle.queries.specs.Queries.{position_in, line_start_in, error_in}
-use Rattle.queries_c.specs.Asked.{Answered, asked}
+use Rattle.refusal.specs.Asked.{Answered, asked}
 
 unfoldable pub position_numbers : List ℕ → List ℕ → ℕ → List ℕ → Answered
 position_numbers state table p answer =

@@ -4,7 +4,6 @@
 ghost use Rattle.std.specs.Prelude.{◌≡◌};
 ghost use Rattle.queries_c.specs.Open.{open_numbers};
 
-use crate::layout::number_of;
 use opening::NotOpened;
 use refusal::{Refusal, too_short};
 use state::{State, put_state};
@@ -24,7 +23,7 @@ pub extern "C" fn scanner_open(
         ≡ open_numbers src.now base size table.old state.old answer.old }
 {
     if too_short(state.len(), State::NUMBERS, answer.len(), 1) {
-        return Refusal::DoesNotFit as u8;
+        return Refusal::DoesNotFit.number();
     }
     match opening::open(src, base, size, table) {
         Ok(opened) => {
@@ -34,8 +33,8 @@ pub extern "C" fn scanner_open(
         }
         Err(NotOpened::NotUtf8 { place }) => {
             answer[0] = place;
-            Refusal::NotUtf8 as u8
+            Refusal::NotUtf8.number()
         }
-        Err(NotOpened::Refused(refusal)) => number_of(refusal),
+        Err(NotOpened::Refused(refusal)) => refusal.number(),
     }
 }

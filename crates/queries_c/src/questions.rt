@@ -6,7 +6,7 @@
 ghost use Rattle.std.specs.Prelude.{◌≡◌};
 ghost use Rattle.queries_c.specs.Questions.{position_numbers, line_start_numbers, error_numbers};
 
-use crate::layout::{ERROR, POSITION, error_numbers, number_of, put};
+use crate::layout::{ERROR, POSITION, error_numbers, put};
 use refusal::{Refusal, too_short};
 use state::{State, state_in};
 
@@ -21,14 +21,14 @@ pub extern "C" fn scanner_position(
     ensures { record { refusal = result; answer = answer.new } ≡ position_numbers state.now table.now p answer.old }
 {
     if too_short(state.len(), State::NUMBERS, answer.len(), POSITION) {
-        return Refusal::DoesNotFit as u8;
+        return Refusal::DoesNotFit.number();
     }
     match queries::position(state_in(state), table, p) {
         Ok(at) => {
             put([at.offset, at.line, at.column], answer);
             0
         }
-        Err(refusal) => number_of(refusal),
+        Err(refusal) => refusal.number(),
     }
 }
 
@@ -43,14 +43,14 @@ pub extern "C" fn scanner_line_start(
     ensures { record { refusal = result; answer = answer.new } ≡ line_start_numbers state.now table.now line answer.old }
 {
     if too_short(state.len(), State::NUMBERS, answer.len(), 1) {
-        return Refusal::DoesNotFit as u8;
+        return Refusal::DoesNotFit.number();
     }
     match queries::line_start(state_in(state), table, line) {
         Ok(start) => {
             put([start], answer);
             0
         }
-        Err(refusal) => number_of(refusal),
+        Err(refusal) => refusal.number(),
     }
 }
 
@@ -66,13 +66,13 @@ pub extern "C" fn scanner_error(
     ensures { record { refusal = result; answer = answer.new } ≡ error_numbers state.now list.now index answer.old }
 {
     if too_short(state.len(), State::NUMBERS, answer.len(), ERROR) {
-        return Refusal::DoesNotFit as u8;
+        return Refusal::DoesNotFit.number();
     }
     match queries::error(state_in(state), list, index) {
         Ok(error) => {
             put(error_numbers(error), answer);
             0
         }
-        Err(refusal) => number_of(refusal),
+        Err(refusal) => refusal.number(),
     }
 }

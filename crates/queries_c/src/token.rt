@@ -2,12 +2,11 @@
 // slice are. Each answers the part of the source or of the text area that it is, and the number of
 // its refusal, or 0. A slice that is too short for a token or an answer is refused by 6, and
 // nothing is written.
-ghost use Rattle.std.specs.Prelude.{◌≡◌, ◌+◌, ◌≤◌};
-ghost use Rattle.parts.specs.Layout.{part_width, token_width};
+ghost use Rattle.std.specs.Prelude.{◌≡◌};
 ghost use Rattle.queries_c.specs.Parts.{part_at, text_numbers, value_numbers};
 
-use crate::layout::{PART, TEXT, VALUE, number_of, part_in, put};
-use parts::Token;
+use crate::layout::{PART, put};
+use parts::{Token, part_in};
 use refusal::{Refusal, too_short};
 use state::bit_of;
 
@@ -19,12 +18,11 @@ fn answer_part<'a>(
     at: usize,
     answer: &mut [usize],
 ) -> u8
-    requires { at + part_width ≤ token_width }
     ensures { record { refusal = result; answer = answer.new }
         ≡ part_at at src.now area.now token.now answer.old }
 {
     if too_short(token.len(), Token::NUMBERS, answer.len(), PART) {
-        return Refusal::DoesNotFit as u8;
+        return Refusal::DoesNotFit.number();
     }
     let part = part_in(token, at);
     match parts::shown(src, area, part) {
@@ -32,7 +30,7 @@ fn answer_part<'a>(
             put([bit_of(part.area), part.start, part.end], answer);
             0
         }
-        Err(refusal) => number_of(refusal),
+        Err(refusal) => refusal.number(),
     }
 }
 
@@ -48,7 +46,7 @@ pub extern "C" fn scanner_text<'a>(
     ensures { record { refusal = result; answer = answer.new }
         ≡ text_numbers src.now area.now token.now answer.old }
 {
-    answer_part(src, area, token, TEXT, answer)
+    answer_part(src, area, token, Token::TEXT, answer)
 }
 
 // The value of a STRING, likewise; a scan gives any other token an empty one.
@@ -62,5 +60,5 @@ pub extern "C" fn scanner_value<'a>(
     ensures { record { refusal = result; answer = answer.new }
         ≡ value_numbers src.now area.now token.now answer.old }
 {
-    answer_part(src, area, token, VALUE, answer)
+    answer_part(src, area, token, Token::VALUE, answer)
 }

@@ -5,27 +5,10 @@ use mathlib.Core.Bool.{Bool, true, false, cond}
 use native.Mathlib.Omega.{arith}
 use lib.Dec.{eqb, leb, ltb}
 use borrow.Author.Tests.{ltb-false, leb-true, le-ltb, eq-eqb}
-use Rattle.refusal.specs.declared.Refusal.{Refusal}
-use Rattle.refusal.specs.declared.Refusal.TheVariants.{NotUtf8, TooLong, BadSize, NoPosition, NoLine, DoesNotFit, TableFull, ListFull, AreaFull, NoNumber, NoPair}
-use Rattle.refusal.specs.Outcome.{refusal_number}
 use Rattle.errors.specs.Faults.{error_number}
 use Rattle.lexer.specs.declared.lexed.Lexed.{Lexed}
 use Rattle.state.specs.declared.state.State.{State}
 use Rattle.scanner.specs.Steps.{to_write, refusal_by}
-
--- every refusal has a number
-pub refusal_some : (e : Refusal) → refusal_number e ≡ 0 → ⊥
-refusal_some NotUtf8 z = omega arith
-refusal_some TooLong z = omega arith
-refusal_some BadSize z = omega arith
-refusal_some NoPosition z = omega arith
-refusal_some NoLine z = omega arith
-refusal_some DoesNotFit z = omega arith
-refusal_some TableFull z = omega arith
-refusal_some ListFull z = omega arith
-refusal_some AreaFull z = omega arith
-refusal_some NoNumber z = omega arith
-refusal_some NoPair z = omega arith
 
 -- one error more, or none
 pub list_none : (number errors list : ℕ) → number ≡ 0 → errors ≤ list → errors + cond (eqb number 0) 0 1 ≤ list

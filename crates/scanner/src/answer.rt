@@ -38,7 +38,9 @@ fn part_from<T: Copy>(shown: Shown<T>, start: usize, strays: usize) -> Part
     }
 }
 
-// Where the value starts: after the text in the area, or after the source's opening quote.
+// Where the value starts: after the text in the area, or after the source's opening quote. (That a
+// place behind the quote is a number is asked here and in `write`: a type for places with one after
+// them would be no plainer.)
 fn value_start(x: Lexed, start: usize, text_end: usize) -> usize
     requires { start + 1 < 2 ^ 64 }
     ensures { result ≡ cond x.value.differs (cond x.text.differs text_end 0) (cond (eqb (kind_number x.kind) STRING) (start + 1) start) }

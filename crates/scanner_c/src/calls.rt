@@ -22,7 +22,7 @@ pub extern "C" fn scanner_scan(
         ≡ scan_numbers src.now state.old table.old list.old area.old token.old }
 {
     if too_short(state.len(), State::NUMBERS, token.len(), Token::NUMBERS) {
-        return Refusal::DoesNotFit as u8;
+        return Refusal::DoesNotFit.number();
     }
     match scanner::scan(src, state_in(state), table, list, area) {
         Ok(scanned) => {
@@ -30,6 +30,6 @@ pub extern "C" fn scanner_scan(
             put_token(scanned.token, token);
             0
         }
-        Err(refusal) => refusal as u8,
+        Err(refusal) => refusal.number(),
     }
 }

@@ -1,9 +1,9 @@
 // The listing of a text: its tokens, its errors and the count of its lines, or the refusal at which
 // it stops.
 use crate::output::Output;
-use crate::refused::Refused;
 use errors::Error;
 use kinds::Kind;
+use opening::NotOpened;
 use position::Position;
 use refusal::Refusal;
 use scanner::{State, Token};
@@ -33,8 +33,8 @@ pub(crate) trait Form {
     // The last line of a whole listing.
     fn end(&self, out: &mut Output, last: State);
 
-    // The last line of a listing that a refusal ends.
-    fn refused(&self, out: &mut Output, refused: Refused);
+    // The last line of a listing that a refusal ends, of the opening or of a later call.
+    fn refused(&self, out: &mut Output, why: NotOpened);
 }
 
 // What scans are lent: a table of line starts, a list of errors and a text area.
@@ -90,10 +90,10 @@ fn list_text<F: Form>(
     src: &[u8],
     lent: Lent<'_>,
     out: &mut Output,
-) -> Result<State, Refused> {
+) -> Result<State, NotOpened> {
     let Lent { table, list, area } = lent;
     if src.len() > MOST_BYTES {
-        return Err(Refused::Because(Refusal::TooLong));
+        return Err(Refusal::TooLong.into());
     }
     let opened = scanner::open(src, 0, src.len(), table)?;
     let mut state = opened.state;
@@ -113,7 +113,7 @@ fn list_text<F: Form>(
 pub(crate) fn list<F: Form>(form: &F, src: &[u8], lent: Lent<'_>, out: &mut Output) {
     match list_text(form, src, lent, out) {
         Ok(last) => form.end(out, last),
-        Err(refused) => form.refused(out, refused),
+        Err(why) => form.refused(out, why),
     }
     out.flush();
 }

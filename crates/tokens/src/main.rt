@@ -3,21 +3,20 @@
 // people.
 #![tactic(auto)]
 
-ghost use Rattle.std.specs.Prelude.{◌≤◌, length};
-
 mod caret;
 mod listing;
 mod output;
 mod people;
-mod refused;
 mod show;
 mod texts;
 
+use arrayvec::ArrayVec;
 use listing::Lent;
 use output::Output;
 use people::Names;
 use show::Numbers;
 use std::env::Env;
+use std::io;
 use std::io::Read;
 
 // Is the first argument `--names`?
@@ -29,30 +28,17 @@ fn wants_names(rt: &HostRuntime) -> bool {
     }
 }
 
-// Reads until the buffer is full, the input ends or a read fails; gives the number of bytes.
-fn read_full(input: &mut impl Read, buffer: &mut [u8]) -> usize
-    ensures { result ≤ length buffer.new }
-{
-    let mut read = 0;
-    // An index loop: each step goes over as many bytes as one read gives.
-    while read < buffer.len() {
-        match input.read(&mut buffer[read..]) {
-            Ok(0) | Err(_) => break,
-            Ok(n) => read += n,
-        }
-    }
-    read
-}
+// One byte more than the longest text has.
+const MOST_READ: usize = 65_537;
 
+// A read that fails ends the text.
 fn main(rt: HostRuntime) {
-    // one byte more than the longest text has
-    let mut src = [0u8; 65537];
+    let mut src = ArrayVec::<u8, MOST_READ>::new();
+    let _ = io::copy(&mut rt.stdin().take(MOST_READ as u64), &mut src);
     let mut area = [0u8; 65536];
     let mut table = [0usize; 16384];
     // 1,024 errors of 4 numbers
     let mut list = [0usize; 4096];
-    let n = read_full(&mut rt.stdin(), &mut src);
-    let src = &src[..n];
     let lent = Lent {
         table: &mut table,
         list: &mut list,
@@ -60,8 +46,8 @@ fn main(rt: HostRuntime) {
     };
     let mut out = Output::new(rt.stdout());
     if wants_names(&rt) {
-        listing::list(&Names, src, lent, &mut out);
+        listing::list(&Names, src.as_slice(), lent, &mut out);
     } else {
-        listing::list(&Numbers, src, lent, &mut out);
+        listing::list(&Numbers, src.as_slice(), lent, &mut out);
     }
 }

@@ -2,10 +2,11 @@
 use crate::caret::{Below, Source};
 use crate::listing::{Form, Shown};
 use crate::output::Output;
-use crate::refused::Refused;
 use crate::{caret, texts};
 use errors::Error;
+use opening::NotOpened;
 use position::Position;
+use refusal::Refusal;
 use scanner::State;
 use std::{fmt, str};
 
@@ -38,8 +39,8 @@ impl Form for Names {
         ));
     }
 
-    fn refused(&self, out: &mut Output, refused: Refused) {
-        out.line(format_args!("refused: {refused}"));
+    fn refused(&self, out: &mut Output, why: NotOpened) {
+        out.line(format_args!("refused: {}", Why(why)));
     }
 }
 
@@ -47,6 +48,22 @@ impl Form for Names {
 // characters.
 fn text_of(bytes: &[u8]) -> &str {
     str::from_utf8(bytes).unwrap_or("")
+}
+
+// Why a listing ends before EOF, in words.
+#[derive(Drop)]
+struct Why(NotOpened);
+
+impl fmt::Display for Why {
+    fn fmt<W: fmt::Write>(&self, f: &mut fmt::Formatter<W>) -> fmt::Result {
+        match self.0 {
+            NotOpened::NotUtf8 { place } => {
+                let words = texts::refusal(Refusal::NotUtf8);
+                write!(f, "{words}: byte {place}, from 0, belongs to no character")
+            }
+            NotOpened::Refused(refusal) => f.write_str(texts::refusal(refusal)),
+        }
+    }
 }
 
 // A count of things, as `2 errors`.

@@ -1,10 +1,11 @@
 // The listing in numbers.
 use crate::listing::{Form, Shown};
 use crate::output::Output;
-use crate::refused::Refused;
 use errors::Error;
 use kinds::Kind;
+use opening::NotOpened;
 use position::Position;
+use refusal::Refusal;
 use scanner::State;
 use std::fmt;
 
@@ -28,8 +29,12 @@ impl Form for Numbers {
         out.line(format_args!("L {}", last.lines));
     }
 
-    fn refused(&self, out: &mut Output, refused: Refused) {
-        out.line(format_args!("R {}", refused.number()));
+    fn refused(&self, out: &mut Output, why: NotOpened) {
+        let refusal = match why {
+            NotOpened::NotUtf8 { .. } => Refusal::NotUtf8,
+            NotOpened::Refused(refusal) => refusal,
+        };
+        out.line(format_args!("R {}", refusal.number()));
     }
 }
 

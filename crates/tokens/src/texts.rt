@@ -2,24 +2,6 @@
 use errors::Fault;
 use refusal::Refusal;
 
-// All faults, in the order of their numbers.
-const FAULTS: [Fault; 14] = [
-    Fault::BadBinary,
-    Fault::BadOctal,
-    Fault::BadHexadecimal,
-    Fault::MisplacedUnderscore,
-    Fault::BadExponent,
-    Fault::OpenRawString,
-    Fault::OpenComment,
-    Fault::OpenQuote,
-    Fault::UnknownEscape,
-    Fault::CutEscape,
-    Fault::BadEscape,
-    Fault::NoCodePoint,
-    Fault::NotOneCharacter,
-    Fault::UnknownToken,
-];
-
 fn fault(fault: Fault) -> &'static str {
     match fault {
         Fault::BadBinary => "bad binary number: no digits, or a digit above 1",
@@ -41,10 +23,7 @@ fn fault(fault: Fault) -> &'static str {
 
 // The words of an error, by its number.
 pub(crate) fn error(number: usize) -> &'static str {
-    match FAULTS.iter().find(|it| **it as usize == number) {
-        Some(found) => fault(*found),
-        None => "unknown error",
-    }
+    Fault::try_from(number).map_or("unknown error", fault)
 }
 
 pub(crate) fn refusal(refusal: Refusal) -> &'static str {

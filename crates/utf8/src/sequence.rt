@@ -7,7 +7,8 @@ ghost use Rattle.utf8.specs.Chars.{code_of};
 
 use crate::Char;
 
-// The length that a first byte announces by its leading one bits, 0 where it announces none.
+// The length that a first byte announces by its leading one bits, 0 where it announces none. (No
+// `Option`: docs/PROVED.md promises this number.)
 #[tactic(auto, using(crate::proofs::Bytes::lengths))]
 pub fn sequence_len(b: u8) -> usize
     ensures { result ≡ announced b }

@@ -1,5 +1,6 @@
 // Writing texts and values to an area, from a place on. Bytes that would come after the area's end
-// are not written.
+// are not written. (The source and the area, each with a place, stay four parameters, as
+// docs/PROVED.md promises: structs of them would be named in each contract and each call.)
 #![tactic(auto)]
 
 mod chars;

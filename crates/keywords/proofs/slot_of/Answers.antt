@@ -1,8 +1,6 @@
--- The definition, word for word.
-use mathlib.Core.Path.{refl}
-use Rattle.keywords.specs.Search.{slot_of}
+-- The same sum, of a length within 64.
+use Rattle.keywords.proofs.Slots.{slot_reduced}
 use Rattle.keywords.proofs.slot_of.Goals as goal
 
 pub returns : goal.returns
-unfolding slot_of
-returns c = refl
+returns c = slot_reduced c.args.number c.args.n

@@ -9,7 +9,6 @@ use Rattle.refusal.specs.Outcome.{outcome_of}
 use Rattle.refusal.specs.Asked.{answered_by}
 use Rattle.quantity_c.specs.Number.{quantity_numbers, number_numbers}
 use Rattle.quantity_c.proofs.Kind.{kind_asked}
-use Rattle.quantity_c.proofs.Refusals.{refusal_tag}
 use Rattle.quantity_c.proofs.scanner_number.Goals as goal
 use Rattle.quantity_c.proofs.scanner_number.Goals.{After-number, Else-too_short}
 
@@ -19,13 +18,10 @@ long c = long_enough _ _ _ _ c.too_short.ensures c.if-too_short.false
 
 pub returns-then-too_short : goal.returns-then-too_short
 unfolding number_numbers
-returns-then-too_short c = rw (sym c.too_short.ensures ∙ c.if-too_short.true)
+returns-then-too_short c = rw (c.number.ensures, sym c.too_short.ensures ∙ c.if-too_short.true)
 
 pub bounds-token-0 : goal.bounds-token-0
 bounds-token-0 c = omega (arith, (long (goal.at.bounds-token-0 c).Else-too_short).0)
-
-pub text_in-requires : goal.text_in-requires
-text_in-requires c = omega (arith, (long (goal.at.text_in-requires c).Else-too_short).0)
 
 pub put_quantity-requires : goal.put_quantity-requires
 put_quantity-requires c = (long (goal.at.put_quantity-requires c).Else-too_short).1
@@ -35,11 +31,11 @@ answered : (q : After-number)
     → let a = q.args in
     number_numbers a.src.now a.area.now a.token.now a.answer.now ≡ answered_by quantity_numbers (outcome_of q.number.result) a.answer.now
 unfolding number_numbers
-answered q = rw (sym q.too_short.ensures ∙ q.if-too_short.false, ← q.text_in.ensures, q.number.ensures, q.kind_of.ensures, kind_asked)
+answered q = rw (sym q.too_short.ensures ∙ q.if-too_short.false, ← q.part_in.ensures, q.number.ensures, q.kind_of.ensures, kind_asked)
 
 pub returns-in-Ok : goal.returns-in-Ok
 returns-in-Ok c =
     rw (c.put_quantity.ensures, answered (goal.at.returns-in-Ok c).After-number, c.in-Ok.is)
 
 pub returns-in-Err : goal.returns-in-Err
-returns-in-Err c = rw (answered (goal.at.returns-in-Err c).After-number, c.in-Err.is, refusal_tag c.in-Err.refusal)
+returns-in-Err c = rw (answered (goal.at.returns-in-Err c).After-number, c.in-Err.is, c.number-in-Err.ensures)

@@ -3,7 +3,7 @@ use mathlib.Core.Path.{refl, sym, ◌∙◌}
 use native.Mathlib.Omega.{arith}
 use Rattle.std.specs.Prelude.{Err}
 use Rattle.scanner.specs.Scan.{gave_answer, answer_of}
-use Rattle.scanner.proofs.Refusals.{refusal_some}
+use Rattle.refusal.proofs.Numbers.{refusal_some}
 use Rattle.batch.proofs.Rounds.{ends_refused, refused_first, goes_given, ends_given}
 use Rattle.batch.proofs.round.scan_next.Goals as goal
 

@@ -7,13 +7,9 @@ use mathlib.Core.List.{List}
 use native.Mathlib.Omega.{arith}
 use lib.ListN.{length}
 use borrow.Author.Tests.{le-leb, eq-eqb, ne_eqb}
-use denote.Enum.Declared.{tag_of}
-use Rattle.refusal.specs.contracts.Refusal.{the_type}
-use Rattle.refusal.specs.declared.Refusal.{Refusal}
-use Rattle.refusal.specs.declared.Refusal.TheVariants.{NotUtf8, TooLong, BadSize, NoPosition, NoLine, DoesNotFit, TableFull, ListFull, AreaFull, NoNumber, NoPair}
-use Rattle.refusal.specs.Outcome.{refusal_number}
 use Rattle.refusal.specs.Short.{too_short}
 use Rattle.refusal.proofs.Lengths.{long_enough}
+use Rattle.refusal.proofs.Numbers.{refusal_some}
 use Rattle.state.specs.Layout.{state_width, state_in}
 use Rattle.std.specs.Prelude.{Ok, Err}
 use Rattle.batch.specs.Many.{ManyLeft, many_left, scan_many_of}
@@ -21,23 +17,6 @@ use Rattle.batch.proofs.Given.{many_kept}
 use Rattle.batch_c.specs.Many.{ManyCallLeft, scans_by, scan_many_numbers}
 use Rattle.batch_c.proofs.calls.scanner_scan_many.Goals as goal
 use Rattle.batch_c.proofs.calls.scanner_scan_many.Goals.{Else-too_short}
-
--- a cast gives a refusal's number
-cast_number : (e : Refusal) → tag_of the_type e + 1 ≡ refusal_number e
-cast_number NotUtf8 = refl
-cast_number TooLong = refl
-cast_number BadSize = refl
-cast_number NoPosition = refl
-cast_number NoLine = refl
-cast_number DoesNotFit = refl
-cast_number TableFull = refl
-cast_number ListFull = refl
-cast_number AreaFull = refl
-cast_number NoNumber = refl
-cast_number NoPair = refl
-
-refusal_some : (e : Refusal) → refusal_number e ≡ 0 → ⊥
-refusal_some e z = omega (arith, cast_number e, z)
 
 -- what the scans leave, where the slices are long enough
 module _ (src state table list area tokens answer : List ℕ) (fits : too_short (length state) state_width (length answer) 1 ≡ false)
@@ -56,7 +35,7 @@ module _ (src state table list area tokens answer : List ℕ) (fits : too_short 
 
 pub returns-then-too_short : goal.returns-then-too_short
 unfolding scan_many_numbers
-returns-then-too_short c = rw (sym c.too_short.ensures ∙ c.if-too_short.true)
+returns-then-too_short c = rw (c.number.ensures, sym c.too_short.ensures ∙ c.if-too_short.true)
 
 -- past the test of lengths the slices are long enough
 not_short : (e : Else-too_short) → let a = e.args in too_short (length a.state.now) state_width (length a.answer.now) 1 ≡ false
@@ -79,7 +58,7 @@ returns-in-Ok c =
 pub returns-in-Err : goal.returns-in-Err
 returns-in-Err c =
     let a = c.args in
-    rw (cast_number c.in-Err.refusal)
+    rw (c.number-in-Err.ensures)
     (kept a.src.now a.state.now a.table.now a.list.now a.area.now a.tokens.now a.answer.now (not_short (goal.at.returns-in-Err c).Else-too_short)
     (many_left (state_in a.state.now) (Err c.in-Err.refusal) c.scan_many.new.table c.scan_many.new.list c.scan_many.new.area c.scan_many.new.tokens)
     (rw (c.state_in.ensures) at c.in-Err.ensures) (refusal_some c.in-Err.refusal))

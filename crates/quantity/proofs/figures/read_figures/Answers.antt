@@ -17,7 +17,7 @@ returns-in_err-m c =
     let two = base_two a.base in
     let l = c.loop-b in
     let d = c.digit-d in
-    let low : d.result < base = omega (arith, c.if-d-below.true, c.number-below.ensures) in
+    let low : d.result < base = omega (arith, c.if-d-below.true, c.from-below.ensures, c.number.ensures) in
     let more = d.result + l.m * base ^ (l.zeros + 1) in
     rw (c.from_residual.ensures, l.invariant.same ∙ digit_some base two a.text.now l.b-index l.m l.zeros d.result c.loop-b-test.true d.ensures low)
     (too_long base two (drop (l.b-index + 1) a.text.now) more 0 (bare_some base two l.m l.zeros d.result low c.if-d-eq0.false) (over_is more (sym c.in_err-m.was ∙ c.appended.ensures)))
@@ -39,7 +39,7 @@ loop-b-preserved c =
                 (l.invariant.same ∙ digit_zero base two a.text.now l.b-index l.m l.zeros d.result c.loop-b-test.true d.ensures (omega (arith, two, w.if-d-eq0.true)) w.if-d-eq0.true);
           }
       | else-d-eq0+then-d-below+in_ok-m w ↦
-          let low : d.result < base = omega (arith, w.if-d-below.true, c.number-below.ensures) in
+          let low : d.result < base = omega (arith, w.if-d-below.true, c.from-below.ensures, c.number.ensures) in
           let is = w.m-is ∙ fits_is _ (d.result + l.m * base ^ (l.zeros + 1)) (sym w.in_ok-m.was ∙ w.appended.ensures) in
           record {
             few = omega (arith, w.zeros-is);
@@ -49,7 +49,7 @@ loop-b-preserved c =
                 (l.invariant.same ∙ digit_some base two a.text.now l.b-index l.m l.zeros d.result c.loop-b-test.true d.ensures low);
           }
       | else-d-eq0+else-d-below w ↦
-          let high : base ≤ digit_val (get_or a.text.now l.b-index 0) = omega (arith, w.if-d-below.false, c.number-below.ensures, d.ensures) in
+          let high : base ≤ digit_val (get_or a.text.now l.b-index 0) = omega (arith, w.if-d-below.false, c.from-below.ensures, c.number.ensures, d.ensures) in
           record {
             few = omega (arith, w.zeros-is, l.invariant.few);
             bare = rw w.m-is l.invariant.bare;

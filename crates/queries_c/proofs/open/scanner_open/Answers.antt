@@ -14,7 +14,7 @@ use Rattle.queries_c.proofs.open.scanner_open.Goals.{Else-too_short}
 
 pub returns-then-too_short : goal.returns-then-too_short
 unfolding open_numbers
-returns-then-too_short c = rw (sym c.too_short.ensures ∙ c.if-too_short.true)
+returns-then-too_short c = rw (c.number.ensures, sym c.too_short.ensures ∙ c.if-too_short.true)
 
 -- past the test of lengths the slices are long enough
 long : (e : Else-too_short)
@@ -39,9 +39,9 @@ returns-in-Ok c =
 pub returns-in-Err-NotUtf8 : goal.returns-in-Err-NotUtf8
 unfolding open_numbers
 returns-in-Err-NotUtf8 c =
-    rw (not_short (goal.at.returns-in-Err-NotUtf8 c).Else-too_short, ← c.open.ensures, c.in-Err-NotUtf8.is, c.in-Err-NotUtf8.field-0-is)
+    rw (c.number-in-Err-NotUtf8.ensures, not_short (goal.at.returns-in-Err-NotUtf8 c).Else-too_short, ← c.open.ensures, c.in-Err-NotUtf8.is, c.in-Err-NotUtf8.field-0-is)
 
 pub returns-in-Err-Refused : goal.returns-in-Err-Refused
 unfolding open_numbers
 returns-in-Err-Refused c =
-    rw (c.number_of.ensures, not_short (goal.at.returns-in-Err-Refused c).Else-too_short, ← c.open.ensures, c.in-Err-Refused.is, c.in-Err-Refused.field-0-is)
+    rw (c.number-in-Err-Refused.ensures, not_short (goal.at.returns-in-Err-Refused c).Else-too_short, ← c.open.ensures, c.in-Err-Refused.is, c.in-Err-Refused.field-0-is)

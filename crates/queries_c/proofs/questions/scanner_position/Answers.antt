@@ -7,7 +7,7 @@ use Rattle.queries_c.proofs.questions.scanner_position.Goals as goal
 
 pub returns-then-too_short : goal.returns-then-too_short
 unfolding position_numbers
-returns-then-too_short c = rw (sym c.too_short.ensures ∙ c.if-too_short.true)
+returns-then-too_short c = rw (c.number.ensures, sym c.too_short.ensures ∙ c.if-too_short.true)
 
 pub put-requires : goal.put-requires
 put-requires c = (omega arith, (long_enough _ _ _ _ c.too_short.ensures c.if-too_short.false).1)
@@ -18,4 +18,4 @@ returns-in-Ok c = rw (c.put.ensures, sym c.too_short.ensures ∙ c.if-too_short.
 
 pub returns-in-Err : goal.returns-in-Err
 unfolding position_numbers
-returns-in-Err c = rw (c.number_of.ensures, sym c.too_short.ensures ∙ c.if-too_short.false, ← c.state_in.ensures, ← c.position.ensures, c.in-Err.is)
+returns-in-Err c = rw (c.number-in-Err.ensures, sym c.too_short.ensures ∙ c.if-too_short.false, ← c.state_in.ensures, ← c.position.ensures, c.in-Err.is)

@@ -5,9 +5,6 @@ use Rattle.refusal.proofs.Lengths.{long_enough}
 use Rattle.queries_c.proofs.Answering.{part_shown}
 use Rattle.queries_c.proofs.token.answer_part.Goals as goal
 
-pub part_in-part-requires : goal.part_in-part-requires
-part_in-part-requires c = omega (arith, (long_enough _ _ _ _ c.too_short.ensures c.if-too_short.false).0)
-
 pub put-requires : goal.put-requires
 put-requires c = (omega arith, (long_enough _ _ _ _ c.too_short.ensures c.if-too_short.false).1)
 
@@ -21,6 +18,6 @@ returns-in-Ok c =
 pub returns-in-Err : goal.returns-in-Err
 returns-in-Err c =
     let a = c.args in
-    rw c.number_of.ensures
+    rw c.number-in-Err.ensures
     (rw c.in-Err.is at (part_shown a.src.now a.area.now c.part_in-part.result c.shown.result c.shown.ensures a.answer.now)
     ∙ rw (sym c.too_short.ensures ∙ c.if-too_short.false, ← c.part_in-part.ensures))

@@ -12,7 +12,7 @@ use Rattle.blanks.specs.Blank.{skip}
 use Rattle.scanner.specs.Steps.{refusal_by, refusal_in, starts_from, Ready, commit_of}
 use Rattle.scanner.proofs.Pass.{read_bound, offset_fits, feeds_read, feeds_fit}
 use Rattle.refusal.specs.Outcome.{refusal_number}
-use Rattle.scanner.proofs.Refusals.{refusal_some}
+use Rattle.refusal.proofs.Numbers.{refusal_some}
 use Rattle.scanner.proofs.Scans.{Held, held, scan_refused, scan_gave, ready}
 use Rattle.scanner.proofs.scanning.finish.Goals as goal
 use Rattle.scanner.proofs.scanning.finish.Goals.{After-check, After-from_residual, After-starts_read-starts, Start}

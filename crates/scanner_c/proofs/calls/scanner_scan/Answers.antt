@@ -5,37 +5,18 @@ use mathlib.Core.Path.{◌≡◌, refl, sym, ◌∙◌}
 use mathlib.Core.Bool.{false}
 use lib.ListN.{length}
 use borrow.Author.Tests.{le-leb, ne_eqb}
-use denote.Enum.Declared.{tag_of}
-use Rattle.refusal.specs.contracts.Refusal.{the_type}
-use Rattle.refusal.specs.declared.Refusal.{Refusal}
-use Rattle.refusal.specs.declared.Refusal.TheVariants.{NotUtf8, TooLong, BadSize, NoPosition, NoLine, DoesNotFit, TableFull, ListFull, AreaFull, NoNumber, NoPair}
-use Rattle.refusal.specs.Outcome.{refusal_number}
 use Rattle.refusal.specs.Short.{too_short}
 use Rattle.refusal.proofs.Lengths.{long_enough}
+use Rattle.refusal.proofs.Numbers.{refusal_some}
 use Rattle.state.specs.Layout.{state_width}
 use Rattle.parts.specs.Layout.{token_width}
-use Rattle.scanner.proofs.Refusals.{refusal_some}
 use Rattle.scanner_c.specs.Calls.{scan_numbers}
 use Rattle.scanner_c.proofs.calls.scanner_scan.Goals as goal
 use Rattle.scanner_c.proofs.calls.scanner_scan.Goals.{Else-too_short}
 
--- a cast gives a refusal's number
-cast_number : (e : Refusal) → tag_of the_type e + 1 ≡ refusal_number e
-cast_number NotUtf8 = refl
-cast_number TooLong = refl
-cast_number BadSize = refl
-cast_number NoPosition = refl
-cast_number NoLine = refl
-cast_number DoesNotFit = refl
-cast_number TableFull = refl
-cast_number ListFull = refl
-cast_number AreaFull = refl
-cast_number NoNumber = refl
-cast_number NoPair = refl
-
 pub returns-then-too_short : goal.returns-then-too_short
 unfolding scan_numbers
-returns-then-too_short c = rw (sym c.too_short.ensures ∙ c.if-too_short.true)
+returns-then-too_short c = rw (c.number.ensures, sym c.too_short.ensures ∙ c.if-too_short.true)
 
 -- past the test of lengths the slices are long enough
 not_short : (e : Else-too_short)
@@ -57,4 +38,4 @@ returns-in-Ok c =
 pub returns-in-Err : goal.returns-in-Err
 unfolding scan_numbers
 returns-in-Err c =
-    rw (cast_number c.in-Err.refusal, not_short (goal.at.returns-in-Err c).Else-too_short, ← c.state_in.ensures, ← c.in-Err.ensures, ne_eqb _ _ (refusal_some c.in-Err.refusal))
+    rw (c.number-in-Err.ensures, not_short (goal.at.returns-in-Err c).Else-too_short, ← c.state_in.ensures, ← c.in-Err.ensures, ne_eqb _ _ (refusal_some c.in-Err.refusal))
