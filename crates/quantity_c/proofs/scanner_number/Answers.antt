@@ -10,7 +10,7 @@ use Rattle.refusal.specs.Asked.{answered_by}
 use Rattle.quantity_c.specs.Number.{quantity_numbers, number_numbers}
 use Rattle.quantity_c.proofs.Kind.{kind_asked}
 use Rattle.quantity_c.proofs.scanner_number.Goals as goal
-use Rattle.quantity_c.proofs.scanner_number.Goals.{After-number, Else-too_short}
+use Rattle.quantity_c.proofs.scanner_number.Goals.{After-number-2, Else-too_short}
 
 -- the slices are long enough
 long : (c : Else-too_short) → (token_width ≤ length c.args.token.now) × (2 ≤ length c.args.answer.now)
@@ -27,15 +27,15 @@ pub put_quantity-requires : goal.put_quantity-requires
 put_quantity-requires c = (long (goal.at.put_quantity-requires c).Else-too_short).1
 
 -- past the test of lengths, what the token in the numbers answers
-answered : (q : After-number)
+answered : (q : After-number-2)
     → let a = q.args in
-    number_numbers a.src.now a.area.now a.token.now a.answer.now ≡ answered_by quantity_numbers (outcome_of q.number.result) a.answer.now
+    number_numbers a.src.now a.area.now a.token.now a.answer.now ≡ answered_by quantity_numbers (outcome_of q.number-2.result) a.answer.now
 unfolding number_numbers
-answered q = rw (sym q.too_short.ensures ∙ q.if-too_short.false, ← q.part_in.ensures, q.number.ensures, q.kind_of.ensures, kind_asked)
+answered q = rw (sym q.too_short.ensures ∙ q.if-too_short.false, ← q.part_in.ensures, q.number-2.ensures, q.kind_of.ensures, kind_asked)
 
 pub returns-in-Ok : goal.returns-in-Ok
 returns-in-Ok c =
-    rw (c.put_quantity.ensures, answered (goal.at.returns-in-Ok c).After-number, c.in-Ok.is)
+    rw (c.put_quantity.ensures, answered (goal.at.returns-in-Ok c).After-number-2, c.in-Ok.is)
 
 pub returns-in-Err : goal.returns-in-Err
-returns-in-Err c = rw (answered (goal.at.returns-in-Err c).After-number, c.in-Err.is, c.number-in-Err.ensures)
+returns-in-Err c = rw (answered (goal.at.returns-in-Err c).After-number-2, c.in-Err.is, c.number-in-Err.ensures)

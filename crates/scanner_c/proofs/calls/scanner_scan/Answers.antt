@@ -1,7 +1,7 @@
 -- `calls::scanner_scan` meets its contract: past the test of lengths the state in the numbers is scanned from, and a refusal writes neither
 -- state nor token.
-use Prim.Native.Nat.{◌+◌, ◌≤◌}
-use mathlib.Core.Path.{◌≡◌, refl, sym, ◌∙◌}
+use Prim.Native.Nat.{◌≤◌}
+use mathlib.Core.Path.{◌≡◌, sym, ◌∙◌}
 use mathlib.Core.Bool.{false}
 use lib.ListN.{length}
 use borrow.Author.Tests.{le-leb, ne_eqb}
