@@ -31,6 +31,14 @@ unfolding lanes
 lanes_fit zero f w s = lit< tt
 lanes_fit (suc n) f w s = rw (byte_more n) (digits_lt (lanes_fit n f (w / 256) s) (s (w % 256) (rest w)))
 
+-- one function after another
+pub lanes_each : (f g : ℕ → ℕ) → Small g → (n w : ℕ) → lanes n f (lanes n g w) ≡ lanes n (λ b. f (g b)) w
+unfolding lanes
+lanes_each f g s zero w = refl
+lanes_each f g s (suc n) w =
+    lanes_next n f (lanes n g (w / 256)) (g (w % 256)) (s (w % 256) (rest w))
+    ∙ ap (λ x. x * 256 + f (g (w % 256))) (lanes_each f g s n (w / 256))
+
 module _ (f g : ℕ → ℕ) where
   pub lanes_same : (n w : ℕ) → ((b : ℕ) → b < 256 → f b ≡ g b) → lanes n f w ≡ lanes n g w
   unfolding lanes
