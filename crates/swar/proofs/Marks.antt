@@ -19,7 +19,7 @@ either_mark true false = refl
 either_mark false true = refl
 either_mark false false = refl
 
-mark_small : (t : ℕ → Bool) → Small (mark t)
+pub mark_small : (t : ℕ → Bool) → Small (mark t)
 mark_small t b l = go (t b)
   where
     go : (v : Bool) → cond v 0x80 0 < 256

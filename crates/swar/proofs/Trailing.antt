@@ -48,7 +48,7 @@ zeros_low (suc m) k a y z h =
     go (suc r) e ih = omega arith
 
 -- a number of k digits that is not 0 has fewer zeros
-pub zeros_lt : (k n : ℕ) → 0 < n → n < 2 ^ k → count_trailing_zeros k n < k
+zeros_lt : (k n : ℕ) → 0 < n → n < 2 ^ k → count_trailing_zeros k n < k
 zeros_lt k n p h = let e : 0 * 2 ^ k + n ≡ n = omega arith in rw (e, add-zero k) at (zeros_low k 0 0 n p h)
 
 zeros_end : (n a b : ℕ) → 0 < b → b < 256 → count_trailing_zeros (8 * suc n) (a * 256 + b) / 8 ≡ 0
@@ -72,6 +72,10 @@ pub before_all : (n : ℕ) → before_mark n 0 ≡ n
 unfolding before_mark
 before_all zero = refl
 before_all (suc n) = ap suc (before_all n)
+
+-- of eight bytes that are not all 0, fewer than eight
+pub before_lt : (w : ℕ) → 0 < w → w < 2 ^ 64 → before_mark 8 w < 8
+before_lt w p h = omega (arith, zeros_before 8 w, zeros_lt 64 w p h)
 
 pub before_le : (n w : ℕ) → before_mark n w ≤ n
 unfolding before_mark
