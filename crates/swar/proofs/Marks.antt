@@ -48,8 +48,8 @@ differ_each w x h l = xor_all w (λ b. b) (sym (lanes_self 8 w h)) (λ b l. l) x
 abbrev zero_mark : ℕ → ℕ
 zero_mark b = bit_and (0xFF - bit_or (bit_and b 0x7F + 0x7F) b) 0x80
 
-zero_right : (b : ℕ) → b < 256 → zero_mark b ≡ mark (eqb 0) b
-zero_right b h = eqb→eq _ _ (every_below (λ b. eqb (zero_mark b) (mark (eqb 0) b)) 256 tt b h)
+zero_right : (b : ℕ) → b < 256 → zero_mark b ≡ mark (λ b. eqb b 0) b
+zero_right b h = eqb→eq _ _ (every_below (λ b. eqb (zero_mark b) (mark (λ b. eqb b 0) b)) 256 tt b h)
 
 module _ (w : ℕ) (h : w < 2 ^ 64) where
   self : w ≡ lanes 8 (λ b. b) w
@@ -58,34 +58,34 @@ module _ (w : ℕ) (h : w < 2 ^ 64) where
   low_each : bit_and w 0x7F7F_7F7F_7F7F_7F7F ≡ lanes 8 (λ b. bit_and b 0x7F) w
   low_each = and_all w (λ b. b) self (λ b l. l) 0x7F (omega arith)
 
-  zeros_each : bit_and (0xFFFF_FFFF_FFFF_FFFF - bit_or (bit_and w 0x7F7F_7F7F_7F7F_7F7F + 0x7F7F_7F7F_7F7F_7F7F) w) 0x8080_8080_8080_8080 ≡ lanes 8 (mark (eqb 0)) w
+  zeros_each : bit_and (0xFFFF_FFFF_FFFF_FFFF - bit_or (bit_and w 0x7F7F_7F7F_7F7F_7F7F + 0x7F7F_7F7F_7F7F_7F7F) w) 0x8080_8080_8080_8080 ≡ lanes 8 (mark (λ b. eqb b 0)) w
   zeros_each =
       let sums = plus_all w (λ b. bit_and b 0x7F) low_each 0x7F in
       let or = ap₂ bit_or sums self ∙ lanes_or (λ b. bit_and b 0x7F + 0x7F) (λ b. b) (small (λ b. bit_and b 0x7F + 0x7F) tt) (λ b l. l) 8 w in
       let small_or = small (λ b. bit_or (bit_and b 0x7F + 0x7F) b) tt in
       let not = from_all w (λ b. bit_or (bit_and b 0x7F + 0x7F) b) or 0xFF (λ b l. omega (arith, small_or b l)) in
       and_all w (λ b. 0xFF - bit_or (bit_and b 0x7F + 0x7F) b) not (λ b l. omega arith) 0x80 (omega arith)
-      ∙ lanes_same zero_mark (mark (eqb 0)) 8 w zero_right
+      ∙ lanes_same zero_mark (mark (λ b. eqb b 0)) 8 w zero_right
 
   pub high_each : bit_and w 0x8080_8080_8080_8080 ≡ lanes 8 (mark (ltb 0x7F)) w
   high_each =
       and_all w (λ b. b) self (λ b l. l) 0x80 (omega arith)
       ∙ lanes_same (λ b. bit_and b 0x80) (mark (ltb 0x7F)) 8 w (λ b l. eqb→eq _ _ (every_below (λ b. eqb (bit_and b 0x80) (mark (ltb 0x7F) b)) 256 tt b l))
 
-same_byte : (x b : ℕ) → mark (eqb 0) (differ x b) ≡ mark (eqb x) b
-same_byte x b = go (eqb x b) refl
+same_byte : (x b : ℕ) → mark (λ b. eqb b 0) (differ x b) ≡ mark (λ b. eqb b x) b
+same_byte x b = go (eqb b x) refl
   where
-    go : (t : Bool) → eqb x b ≡ t → ◌≡◌ {A = ℕ} (cond (eqb 0 (differ x b)) 0x80 0) (cond t 0x80 0)
-    go true e = let z : differ x b ≡ 0 = ap (differ x) (sym (eqb-true x b e)) ∙ xor_self x in rw z refl
-    go false e = rw (ne_eqb 0 (differ x b) (λ z. eqb-false x b e (sym (xor_zero b x (sym z))))) refl
+    go : (t : Bool) → eqb b x ≡ t → ◌≡◌ {A = ℕ} (cond (eqb (differ x b) 0) 0x80 0) (cond t 0x80 0)
+    go true e = let z : differ x b ≡ 0 = ap (differ x) (eqb-true b x e) ∙ xor_self x in rw z refl
+    go false e = rw (ne_eqb (differ x b) 0 (λ z. eqb-false b x e (xor_zero b x z))) refl
 
 module _ (w : ℕ) (h : w < 2 ^ 64) (x : ℕ) (l : x < 256) where
-  pub byte_each : bit_and (0xFFFF_FFFF_FFFF_FFFF - bit_or (bit_and (bit_xor w (x * 0x0101_0101_0101_0101)) 0x7F7F_7F7F_7F7F_7F7F + 0x7F7F_7F7F_7F7F_7F7F) (bit_xor w (x * 0x0101_0101_0101_0101))) 0x8080_8080_8080_8080 ≡ lanes 8 (mark (eqb x)) w
+  pub byte_each : bit_and (0xFFFF_FFFF_FFFF_FFFF - bit_or (bit_and (bit_xor w (x * 0x0101_0101_0101_0101)) 0x7F7F_7F7F_7F7F_7F7F + 0x7F7F_7F7F_7F7F_7F7F) (bit_xor w (x * 0x0101_0101_0101_0101))) 0x8080_8080_8080_8080 ≡ lanes 8 (mark (λ b. eqb b x)) w
   byte_each =
       zeros_each (bit_xor w (x * 0x0101_0101_0101_0101)) (xor_lt 64 w (x * 0x0101_0101_0101_0101) h (omega arith))
-      ∙ ap (lanes 8 (mark (eqb 0))) (differ_each w x h l)
-      ∙ lanes_each (mark (eqb 0)) (differ x) (differ_small x l) 8 w
-      ∙ lanes_same (λ b. mark (eqb 0) (differ x b)) (mark (eqb x)) 8 w (λ b _. same_byte x b)
+      ∙ ap (lanes 8 (mark (λ b. eqb b 0))) (differ_each w x h l)
+      ∙ lanes_each (mark (λ b. eqb b 0)) (differ x) (differ_small x l) 8 w
+      ∙ lanes_same (λ b. mark (λ b. eqb b 0) (differ x b)) (mark (λ b. eqb b x)) 8 w (λ b _. same_byte x b)
 
 -- ---- the test for ASCII bytes from one to another, by the top bits of a sum, a difference and a complement
 module _ (first last m n : ℕ) (e : m ≡ min first 0x80) (f : n ≡ min last 0x7F) where

@@ -61,7 +61,7 @@ pub fn eight(s: &[u8], at: usize) -> u64
 // Marks the bytes that are the one given. Each sum has in its top bit whether a byte's low seven
 // bits differ, and never reaches into the next byte.
 pub fn mark_byte(eight: u64, byte: u8) -> u64
-    ensures { result ≡ lanes 8 (mark (eqb byte)) eight }
+    ensures { result ≡ lanes 8 (mark (λ b. eqb b byte)) eight }
 {
     let apart = eight ^ (byte as u64 * 0x0101_0101_0101_0101);
     let sums = (apart & 0x7F7F_7F7F_7F7F_7F7F) + 0x7F7F_7F7F_7F7F_7F7F;

@@ -33,7 +33,7 @@ abbrev lower : ℕ → ℕ
 lower b = bit_or b 0x20
 
 abbrev is_part : ℕ → Bool
-is_part b = (ascii_between (code "a") (code "z") (lower b) || ascii_between (code "0") (code "9") b) || eqb (code "_") b
+is_part b = (ascii_between (code "a") (code "z") (lower b) || ascii_between (code "0") (code "9") b) || eqb b (code "_")
 
 -- at each of the 256 bytes
 mark_right : (b : ℕ) → b < 256 → bit_xor (mark is_part b) 0x80 ≡ other_mark b
@@ -41,7 +41,7 @@ unfolding other_mark is_word is_letter
 mark_right b h = eqb→eq _ _ (every_below (λ b. eqb (bit_xor (mark is_part b) 0x80) (other_mark b)) 256 tt b h)
 
 pub others_each : (w l d u : ℕ) → w < 2 ^ 64 → l ≡ lanes 8 (mark (ascii_between (code "a") (code "z"))) (bit_or w 0x2020_2020_2020_2020)
-    → d ≡ lanes 8 (mark (ascii_between (code "0") (code "9"))) w → u ≡ lanes 8 (mark (eqb (code "_"))) w
+    → d ≡ lanes 8 (mark (ascii_between (code "0") (code "9"))) w → u ≡ lanes 8 (mark (λ b. eqb b (code "_"))) w
     → bit_xor (bit_or (bit_or l d) u) 0x8080_8080_8080_8080 ≡ lanes 8 other_mark w
 others_each w l d u h e f g =
     let self = sym (lanes_self 8 w h) in
@@ -50,7 +50,7 @@ others_each w l d u h e f g =
     let letters : l ≡ lanes 8 (mark (λ b. letter (lower b))) w =
     e ∙ ap (lanes 8 (mark letter)) (or_all w (λ b. b) self (λ b l. l) 0x20 (omega arith)) ∙ lanes_each (mark letter) lower (small lower tt) 8 w in
     let two = ap₂ bit_or letters f ∙ marks_or (λ b. letter (lower b)) digit w in
-    let three = ap₂ bit_or two g ∙ marks_or (λ b. letter (lower b) || digit b) (eqb (code "_")) w in
+    let three = ap₂ bit_or two g ∙ marks_or (λ b. letter (lower b) || digit b) (λ b. eqb b (code "_")) w in
     xor_all w (mark is_part) three (mark_small is_part) 0x80 (omega arith)
     ∙ lanes_same (λ b. bit_xor (mark is_part b) 0x80) other_mark 8 w mark_right
 
