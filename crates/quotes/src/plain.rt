@@ -58,7 +58,8 @@ fn plain_at(src: &[u8], at: usize, quote: Quote) -> usize
 }
 
 // The place of the first of those from a place on, or the end; by eight bytes where they are there.
-// An index loop: a step goes over eight bytes, so no `for` fits.
+// `chunks_exact(8)` is no plainer: the answer is the place, so a count would stand beside the
+// chunks, and the last bytes are no whole chunk.
 pub(crate) fn plain_end(src: &[u8], at: usize, quote: Quote) -> usize
     ensures { result ≡ at + plain_len (quote_code quote) (drop at src.now) }
 {

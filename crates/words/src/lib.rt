@@ -1,4 +1,6 @@
-// Words: identifiers and keywords.
+// Words: identifiers and keywords. A source and a place in it stay two parameters: docs/PROVED.md
+// promises these functions so, and a struct of both, named in each contract and each call, would be
+// no plainer.
 #![tactic(auto)]
 
 ghost use Rattle.std.specs.Prelude.{◌≡◌, ◌+◌, min, drop};
@@ -33,8 +35,9 @@ fn run_at(src: &[u8], at: usize) -> usize
 }
 
 // The place after the longest run of letters and digits at a place. (The answer would be the same
-// without the loop's test. With it, the load of eight bytes needs none. A step goes over eight
-// bytes, so no `for` fits.)
+// without the loop's test. With it, the load of eight bytes needs none. `chunks_exact(8)` is no
+// plainer: the answer is the place, so a count would stand beside the chunks, and the last bytes
+// are no whole chunk.)
 pub fn word_end(src: &[u8], at: usize) -> usize
     ensures { result ≡ at + word_len (chars (drop at src.now)) }
 {
