@@ -1,5 +1,5 @@
 -- Laws of trailing zeros by bytes: a byte of zeros adds eight, and in any other they end. So they count the bytes before the first mark.
-use Prim.Native.Nat.{ℕ, zero, suc, ◌+◌, ◌*◌, ◌/◌, ◌%◌, ◌^◌, ◌≤◌, ◌<◌}
+use Prim.Native.Nat.{ℕ, zero, suc, ◌+◌, ◌*◌, ◌/◌, ◌%◌, ◌^◌, ◌<◌}
 use mathlib.Core.Path.{◌≡◌, refl, ap, ◌∙◌}
 use mathlib.Core.Bool.{cond}
 use mathlib.Core.List.{List}
@@ -10,7 +10,6 @@ use lib.Count.{count_trailing_zeros, under}
 use lib.Dec.{eqb}
 use lib.ListN.{take, drop, get_or}
 use borrow.Author.Tests.{ne_eqb}
-use Rattle.basics.proofs.Choice.{cond_ind}
 use Rattle.swar.specs.Number.{number_of}
 use Rattle.swar.specs.Lanes.{lanes}
 use Rattle.swar.specs.Marks.{before_mark}
@@ -76,11 +75,6 @@ before_all (suc n) = ap suc (before_all n)
 -- of eight bytes that are not all 0, fewer than eight
 pub before_lt : (w : ℕ) → 0 < w → w < 2 ^ 64 → before_mark 8 w < 8
 before_lt w p h = omega (arith, zeros_before 8 w, zeros_lt 64 w p h)
-
-pub before_le : (n w : ℕ) → before_mark n w ≤ n
-unfolding before_mark
-before_le zero w = omega arith
-before_le (suc n) w = cond_ind (λ x. x ≤ suc n) (eqb (w % 256) 0) _ _ (λ _. omega (arith, before_le n (w / 256))) (λ _. omega arith)
 
 -- P n p k speaks of the n bytes from a place p on, the first k of which f makes zero. What holds of no bytes, of a first one that f makes something else, and of one
 -- more that it makes zero, holds with the number of bytes that f makes zero before the first other.
