@@ -6,7 +6,6 @@
 ghost use Rattle.std.specs.Prelude.{◌≡◌, drop};
 ghost use Rattle.utf8.specs.Chars.{chars};
 ghost use Rattle.blanks.specs.Blank.{is_space, skip, skipped_at};
-ghost use Rattle.blanks.specs.Tabs.{TabsAt};
 
 // Blanks that were skipped: the place after them, how many line feeds they have, and the place
 // after the last of these, if there is one.
@@ -50,21 +49,13 @@ fn skip_bytes(src: &[u8], at: usize, mark: bool) -> Skipped
     Skipped { end, lfs, line }
 }
 
-// How many of the next eight bytes are tabs, before the first other.
-fn tabs(src: &[u8], at: usize) -> usize
-    ensures { TabsAt src.now at result }
-{
-    // 0x09 is b'\t'
-    u64::trailing_zeros(swar::eight(src, at) ^ 0x0909_0909_0909_0909) as usize / 8
-}
-
 // Skips blanks; a line feed with tabs after it, the start of most lines, takes one step.
 fn skip_line(src: &[u8], at: usize, mark: bool) -> Skipped
     ensures { result ≡ skipped_at at (skip mark (chars (drop at src.now))) }
 {
     if (utf8::byte(src, at) == b'\n') & !mark {
         let line = at + 1;
-        let end = line + tabs(src, line);
+        let end = line + swar::run_of(src, line, b'\t');
         if utf8::byte(src, end) > b' ' {
             return Skipped {
                 end,

@@ -1,4 +1,6 @@
-// Quoted literals: the bodies of character literals and double-quoted strings.
+// Quoted literals: the bodies of character literals and double-quoted strings. A source and a place
+// in it stay two parameters: docs/PROVED.md promises these functions so, and a struct of both, named
+// in each contract and each call, would be no plainer.
 #![tactic(auto)]
 
 mod body;

@@ -39,17 +39,14 @@ fn plain_run(s: &[u8], quote: Quote) -> usize
     s.iter().take_while(|b| is_plain(**b, quote)).count()
 }
 
-// For each of eight bytes 0x80 where it is the quote, a backslash, a line feed or above 127, else
-// 0. A test's answer is the top bit of each byte: that of a sum with the byte's low seven bits,
-// which never reaches into the next byte.
-fn stops(w: u64, quote: Quote) -> u64
-    ensures { result ≡ lanes 8 (stop_mark (quote_code quote)) w }
+// Marks those of eight bytes that are the quote, a backslash, a line feed or above 127.
+fn stops(eight: u64, quote: Quote) -> u64
+    ensures { result ≡ lanes 8 (stop_mark (quote_code quote)) eight }
 {
-    let low = w & 0x7F7F_7F7F_7F7F_7F7F;
-    let no_quote = (low ^ (quote.byte() as u64 * 0x0101_0101_0101_0101)) + 0x7F7F_7F7F_7F7F_7F7F;
-    let no_lf = (low ^ (b'\n' as u64 * 0x0101_0101_0101_0101)) + 0x7F7F_7F7F_7F7F_7F7F;
-    let no_slash = (low ^ (b'\\' as u64 * 0x0101_0101_0101_0101)) + 0x7F7F_7F7F_7F7F_7F7F;
-    (!(no_lf & no_slash & no_quote) | w) & 0x8080_8080_8080_8080
+    swar::mark_byte(eight, quote.byte())
+        | swar::mark_byte(eight, b'\n')
+        | swar::mark_byte(eight, b'\\')
+        | swar::mark_high(eight)
 }
 
 // How many of the eight bytes at a place come before the first of those.
@@ -57,11 +54,12 @@ fn plain_at(src: &[u8], at: usize, quote: Quote) -> usize
     requires { at + 8 ≤ length src.now }
     ensures { result ≡ min 8 (plain_len (quote_code quote) (drop at src.now)) }
 {
-    u64::trailing_zeros(stops(swar::eight(src, at), quote)) as usize / 8
+    swar::before_mark(stops(swar::eight(src, at), quote))
 }
 
 // The place of the first of those from a place on, or the end; by eight bytes where they are there.
-// An index loop: a step goes over eight bytes, so no `for` fits.
+// `chunks_exact(8)` is no plainer: the answer is the place, so a count would stand beside the
+// chunks, and the last bytes are no whole chunk.
 pub(crate) fn plain_end(src: &[u8], at: usize, quote: Quote) -> usize
     ensures { result ≡ at + plain_len (quote_code quote) (drop at src.now) }
 {

@@ -3,7 +3,10 @@ ghost use Rattle.std.specs.Prelude.{◌≡◌, ◌+◌, ◌<◌, length};
 ghost use Rattle.spans.specs.Plain.{plain_block, PlainRun};
 
 // Are there 16 bytes at a place, none of which is to be looked at by itself? Each test is made of
-// each byte: a loop of few wide steps.
+// each byte: a loop of few wide steps. `validation` has such a function for 32 bytes. They stay two:
+// one for both would take the test as a closure, and a public function that takes one requires that
+// it may be called, while none here requires anything; and `validation` takes the greatest byte, by
+// which the compiler makes its wide steps.
 pub(crate) fn is_block(src: &[u8], at: usize, stop: u8) -> bool
     ensures { result ≡ plain_block stop src.now at }
 {
@@ -22,20 +25,15 @@ pub(crate) fn is_block(src: &[u8], at: usize, stop: u8) -> bool
 }
 
 // How many of the next eight bytes, before the first other, are not to be looked at by themselves;
-// none where there are fewer than eight. A test's answer is the top bit of each byte: that of a sum
-// with the byte's low seven bits, which never reaches into the next byte.
+// none where there are fewer than eight.
 pub(crate) fn run_len(src: &[u8], at: usize, stop: u8) -> usize
-    requires { (stop < 128) × (at < length src.now) }
+    requires { at < length src.now }
     ensures { PlainRun stop src.now at result × (result < 8 → at + result < length src.now) }
 {
     if !swar::has_eight(src, at) {
         return 0;
     }
-    let w = swar::eight(src, at);
-    let low = w & 0x7F7F_7F7F_7F7F_7F7F;
-    // 0x72 is 0x7F - b'\r'
-    let not_low = low + 0x7272_7272_7272_7272;
-    let not_stop = (low ^ (stop as u64 * 0x0101_0101_0101_0101)) + 0x7F7F_7F7F_7F7F_7F7F;
-    let others = (!(not_low & not_stop) | w) & 0x8080_8080_8080_8080;
-    u64::trailing_zeros(others) as usize / 8
+    let eight = swar::eight(src, at);
+    let controls = swar::mark_between(eight, 0, b'\r');
+    swar::before_mark(controls | swar::mark_byte(eight, stop) | swar::mark_high(eight))
 }

@@ -3,9 +3,9 @@ use Prim.Native.Nat.{ℕ, zero, suc, ◌+◌, ◌-◌, ◌*◌, ◌/◌, ◌%◌
 use mathlib.Core.Path.{◌≡◌, refl, ap, ap₂, ◌∙◌}
 use native.Mathlib.Nat.{mod-lt, zero-lt-suc}
 use native.Mathlib.Omega.{arith}
-use lib.Arith.{digits_lt, digits_div, digits_mod}
+use lib.Arith.{digits_div, digits_mod}
 use lib.Bits.{bit_and, bit_or, bit_xor, and_block, or_block, xor_block}
-use lib.Dec.{T, ltb, lit<, ltb→lt}
+use lib.Dec.{T, ltb, ltb→lt}
 use Rattle.basics.proofs.Every.{below, every_below}
 use Rattle.swar.specs.Lanes.{lanes}
 use Rattle.swar.proofs.Numbers.{byte_more}
@@ -26,10 +26,13 @@ unfolding lanes
 lanes_self zero w h = omega arith
 lanes_self (suc n) w h = rw (lanes_self n (w / 256) (omega (arith, byte_more n))) (omega arith)
 
-pub lanes_fit : (n : ℕ) (f : ℕ → ℕ) (w : ℕ) → Small f → lanes n f w < 2 ^ (8 * n)
+-- one function after another
+pub lanes_each : (f g : ℕ → ℕ) → Small g → (n w : ℕ) → lanes n f (lanes n g w) ≡ lanes n (λ b. f (g b)) w
 unfolding lanes
-lanes_fit zero f w s = lit< tt
-lanes_fit (suc n) f w s = rw (byte_more n) (digits_lt (lanes_fit n f (w / 256) s) (s (w % 256) (rest w)))
+lanes_each f g s zero w = refl
+lanes_each f g s (suc n) w =
+    lanes_next n f (lanes n g (w / 256)) (g (w % 256)) (s (w % 256) (rest w))
+    ∙ ap (λ x. x * 256 + f (g (w % 256))) (lanes_each f g s n (w / 256))
 
 module _ (f g : ℕ → ℕ) where
   pub lanes_same : (n w : ℕ) → ((b : ℕ) → b < 256 → f b ≡ g b) → lanes n f w ≡ lanes n g w
@@ -88,9 +91,6 @@ module _ (w : ℕ) (f : ℕ → ℕ) {x : ℕ} (e : x ≡ lanes 8 f w) where
 
   pub from_all : (k : ℕ) → ((b : ℕ) → b < 256 → f b ≤ k) → k * 0x0101_0101_0101_0101 - x ≡ lanes 8 (λ b. k - f b) w
   from_all k l = ap₂ (λ m n. m - n) (lanes_const k w) e ∙ lanes_sub (λ b. k) f 8 w l
-
-  pub le_all : (k : ℕ) → ((b : ℕ) → b < 256 → f b ≤ k) → x ≤ k * 0x0101_0101_0101_0101
-  le_all k l = rw (e, lanes_const k w) (lanes_le f (λ b. k) 8 w l)
 
   module _ (s : Small f) (k : ℕ) (h : k < 256) where
     pub and_all : bit_and x (k * 0x0101_0101_0101_0101) ≡ lanes 8 (λ b. bit_and (f b) k) w

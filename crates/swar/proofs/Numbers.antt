@@ -1,5 +1,5 @@
 -- Laws of the number that bytes are: a byte more, its size, its first bytes, and that it tells words of one length apart.
-use Prim.Native.Nat.{ℕ, zero, suc, ◌+◌, ◌-◌, ◌*◌, ◌%◌, ◌^◌, ◌≤◌, ◌<◌, min}
+use Prim.Native.Nat.{ℕ, zero, suc, ◌+◌, ◌-◌, ◌*◌, ◌%◌, ◌^◌, ◌≤◌, ◌<◌}
 use mathlib.Core.Path.{◌≡◌, refl, ap, ap₂, ◌∙◌}
 use mathlib.Core.List.{List, [], ◌∷◌}
 use native.Mathlib.Nat.{add-zero, mod-one, zero-mod, lt_of_lt_of_le}
@@ -7,8 +7,7 @@ use native.Mathlib.Omega.{arith}
 use lib.Arith.{digits_lt, digits_div, digits_mod, mod-mul}
 use lib.Bits.{bit_and, and_mask}
 use lib.Dec.{T, ltb, lit<, leb→le}
-use native.Mathlib.Decide.{dec_le}
-use lib.ListN.{length, take, drop, get_or, length-drop, drop_of_length-le}
+use lib.ListN.{length, take, drop, get_or, length-drop}
 use lib.Pow.{pow-add, pow_mono, pow_pos, are_bytes}
 use lib.Seq.{take-nil, take-take, get_or-drop}
 use Rattle.basics.proofs.Choice.{and_left, and_right}
@@ -49,16 +48,6 @@ number_drop (x ∷ s) (suc i) = number_drop s i
 -- from the byte i on to the one before it
 pub number_before : (s : List ℕ) (i : ℕ) → 0 < i → number_of (drop (i - 1) s) ≡ number_of (drop i s) * 256 + get_or s (i - 1) 0
 number_before s i l = let e : suc (i - 1) ≡ i = omega arith in rw (number_drop s (i - 1), e)
-
--- all bytes from the place on, or none where it is past the end
-pub number_last : (s : List ℕ) (at i : ℕ) → i ≤ at → i ≤ length s → min at (length s) ≤ i → number_of (drop i s) ≡ number_of (drop at s)
-number_last s at i h l m = elim (dec_le at (length s)) [ yes k ↦ there k | no k ↦ past k ]
-  where
-    there : at ≤ length s → number_of (drop i s) ≡ number_of (drop at s)
-    there k = let e : i ≡ at = omega arith in rw e
-
-    past : (at ≤ length s → ⊥) → number_of (drop i s) ≡ number_of (drop at s)
-    past k = rw (drop_of_length-le s {i = i} (omega arith), drop_of_length-le s {i = at} (omega arith))
 
 first_eight : (s : List ℕ) → number_of (take 8 s) ≡ get_or s 0 0 + get_or s 1 0 * 0x100 + get_or s 2 0 * 0x1_0000 + get_or s 3 0 * 0x100_0000 + get_or s 4 0 * 0x1_0000_0000 + get_or s 5 0 * 0x100_0000_0000 + get_or s 6 0 * 0x1_0000_0000_0000 + get_or s 7 0 * 0x100_0000_0000_0000
 unfolding number_of

@@ -1,4 +1,4 @@
--- Steps of the code. No public contract cites this file. A function of bytes on each byte of a number.
+-- A function of bytes on each byte of a number.
 use Rattle.std.specs.Prelude.{ℕ, zero, suc, ◌+◌, ◌*◌, ◌/◌, ◌%◌}
 
 -- f of each of the n lowest bytes of a number, each in its byte's place

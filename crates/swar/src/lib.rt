@@ -1,19 +1,19 @@
-// Eight bytes of a text as one number, the first byte lowest.
+// Eight bytes of a text as one number, the first byte lowest. Tests of all eight at once give such a
+// number too: it has a mark, 0x80, in each byte where the test holds, and 0 in the others.
 #![tactic(auto)]
 
-ghost use Rattle.std.specs.Prelude.{◌≡◌, ◌+◌, ◌*◌, ◌≤◌, leb, length, take, drop};
+ghost use Rattle.std.specs.Prelude.{◌≡◌, ◌+◌, ◌*◌, ◌≤◌, eqb, ltb, leb, length, take, drop};
 ghost use Rattle.swar.specs.Number.{number_of};
+ghost use Rattle.swar.specs.Lanes.{lanes};
+ghost use Rattle.swar.specs.Marks.{mark, ascii_between, before_mark, RunOf};
 
-// The number that the bytes from a place on are, where they are at most eight. An index loop: it
-// goes down from the end to a place that may lie past it, and no slice begins there.
+// The number that the bytes from a place on are, where they are at most eight.
 fn last_bytes(s: &[u8], at: usize) -> u64
     requires { length s.now ≤ at + 8 }
     ensures { result ≡ number_of (drop at s.now) }
 {
-    let mut i = s.len();
     let mut number: u64 = 0;
-    while at < i {
-        i -= 1;
+    for i in (at..s.len()).rev() {
         let byte = s[i] as u64;
         number = number * 256 + byte;
     }
@@ -56,4 +56,46 @@ pub fn eight(s: &[u8], at: usize) -> u64
     } else {
         last_bytes(s, at)
     }
+}
+
+// Marks the bytes that are the one given. Each sum has in its top bit whether a byte's low seven
+// bits differ, and never reaches into the next byte.
+pub fn mark_byte(eight: u64, byte: u8) -> u64
+    ensures { result ≡ lanes 8 (mark (λ b. eqb b byte)) eight }
+{
+    let apart = eight ^ (byte as u64 * 0x0101_0101_0101_0101);
+    let sums = (apart & 0x7F7F_7F7F_7F7F_7F7F) + 0x7F7F_7F7F_7F7F_7F7F;
+    !(sums | apart) & 0x8080_8080_8080_8080
+}
+
+// Marks the ASCII bytes from one to another. The top bit of a sum or a difference with a byte's low
+// seven bits has the answer, and none reaches into the next byte.
+pub fn mark_between(eight: u64, first: u8, last: u8) -> u64
+    ensures { result ≡ lanes 8 (mark (ascii_between first last)) eight }
+{
+    let low = eight & 0x7F7F_7F7F_7F7F_7F7F;
+    let from = (0x80 - first.min(0x80)) as u64 * 0x0101_0101_0101_0101;
+    let to = (0x80 + last.min(0x7F)) as u64 * 0x0101_0101_0101_0101;
+    (low + from) & (to - low) & !eight & 0x8080_8080_8080_8080
+}
+
+// Marks the bytes that are no ASCII.
+pub fn mark_high(eight: u64) -> u64
+    ensures { result ≡ lanes 8 (mark (ltb 0x7F)) eight }
+{
+    eight & 0x8080_8080_8080_8080
+}
+
+// How many of eight bytes come before the first that is marked.
+pub fn before_mark(marks: u64) -> usize
+    ensures { result ≡ before_mark 8 marks }
+{
+    u64::trailing_zeros(marks) as usize / 8
+}
+
+// How many of the next eight bytes are the one given, before the first other.
+pub fn run_of(s: &[u8], at: usize, byte: u8) -> usize
+    ensures { RunOf byte s.now at result }
+{
+    before_mark(eight(s, at) ^ (byte as u64 * 0x0101_0101_0101_0101))
 }

@@ -2,33 +2,18 @@
 use Prim.Native.Nat.{ℕ, ◌+◌, ◌≤◌, ◌<◌}
 use Prim.Native.Char.{code}
 use mathlib.Core.Path.{◌≡◌, refl}
-use mathlib.Core.Bool.{Bool, true, false, cond, beq}
+use mathlib.Core.Bool.{true, false}
 use mathlib.Core.List.{List}
 use native.Mathlib.Omega.{arith}
 use native.Mathlib.Nat.{add-zero}
-use lib.Dec.{ltb, leb, eqb}
 use lib.ListN.{length, get_or, drop}
 use borrow.Author.Tests.{ne_eqb}
-use Rattle.basics.proofs.Choice.{above_it, same_test}
-use Rattle.basics.proofs.Every.{every_below}
+use Rattle.basics.proofs.Choice.{above_it}
 use Rattle.utf8.specs.Chars.{chars}
 use Rattle.utf8.proofs.First.{chars_at, chars_end, chars_ascii}
 use Rattle.utf8.proofs.Places.{ascii_only, test_there}
 use Rattle.utf8.proofs.Runs.{Run}
 use Rattle.words.specs.Word.{is_letter, is_word, word_len}
-
--- a letter by the bounds of the ranges, in their order
-abbrev pub by_bounds : ℕ → Bool
-by_bounds b =
-    cond (ltb b (code "A")) false
-    (cond (leb b (code "Z")) true (cond (eqb b (code "_")) true (cond (ltb b (code "a")) false (leb b (code "z")))))
-
-right : ℕ → Bool
-right b = beq (by_bounds b) (is_letter b)
-
-pub letter_by_bounds : (b : ℕ) → b < 256 → by_bounds b ≡ is_letter b
-unfolding right is_letter
-letter_by_bounds b h = same_test _ _ (every_below right 256 tt b h)
 
 -- no character above 127 is a letter, or part of a word
 pub letter_high : (c : ℕ) → 0x80 ≤ c → is_letter c ≡ false

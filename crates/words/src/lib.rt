@@ -1,4 +1,6 @@
-// Words: identifiers and keywords.
+// Words: identifiers and keywords. A source and a place in it stay two parameters: docs/PROVED.md
+// promises these functions so, and a struct of both, named in each contract and each call, would be
+// no plainer.
 #![tactic(auto)]
 
 ghost use Rattle.std.specs.Prelude.{◌≡◌, ◌+◌, min, drop};
@@ -15,33 +17,27 @@ pub fn is_letter(b: u8) -> bool
     matches!(b, b'A'..=b'Z' | b'_' | b'a'..=b'z')
 }
 
-// For each of eight bytes 0x80 where it is no letter and no digit, else 0. A test's answer is the
-// top bit of each byte: that of a sum or a difference with the byte's low seven bits, which never
-// reaches into the next byte.
-fn others(w: u64) -> u64
-    ensures { result ≡ lanes 8 other_mark w }
+// Marks those of eight bytes that are no letters and no digits.
+fn others(eight: u64) -> u64
+    ensures { result ≡ lanes 8 other_mark eight }
 {
-    let low = w & 0x7F7F_7F7F_7F7F_7F7F;
-    // 0x20 makes a letter lower case; 0x1F is 0x80 - b'a', 0xFA is 0x80 + b'z'
-    let lower = low | 0x2020_2020_2020_2020;
-    let letter = (lower + 0x1F1F_1F1F_1F1F_1F1F) & (0xFAFA_FAFA_FAFA_FAFA - lower);
-    // 0x50 is 0x80 - b'0', 0xB9 is 0x80 + b'9'
-    let digit = (low + 0x5050_5050_5050_5050) & (0xB9B9_B9B9_B9B9_B9B9 - low);
-    // 0x5F is b'_'
-    let no_underscore = (low ^ 0x5F5F_5F5F_5F5F_5F5F) + 0x7F7F_7F7F_7F7F_7F7F;
-    (no_underscore & !(letter | digit) | w) & 0x8080_8080_8080_8080
+    // 0x20 makes a letter lower case
+    let letters = swar::mark_between(eight | 0x2020_2020_2020_2020, b'a', b'z');
+    let digits = swar::mark_between(eight, b'0', b'9');
+    (letters | digits | swar::mark_byte(eight, b'_')) ^ 0x8080_8080_8080_8080
 }
 
 // The length of the run of letters and digits at a place, at most eight.
 fn run_at(src: &[u8], at: usize) -> usize
     ensures { result ≡ min 8 (word_len (chars (drop at src.now))) }
 {
-    u64::trailing_zeros(others(swar::eight(src, at))) as usize / 8
+    swar::before_mark(others(swar::eight(src, at)))
 }
 
 // The place after the longest run of letters and digits at a place. (The answer would be the same
-// without the loop's test. With it, the load of eight bytes needs none. A step goes over eight
-// bytes, so no `for` fits.)
+// without the loop's test. With it, the load of eight bytes needs none. `chunks_exact(8)` is no
+// plainer: the answer is the place, so a count would stand beside the chunks, and the last bytes
+// are no whole chunk.)
 pub fn word_end(src: &[u8], at: usize) -> usize
     ensures { result ≡ at + word_len (chars (drop at src.now)) }
 {
@@ -75,7 +71,7 @@ pub fn near_run(src: &[u8], at: usize) -> Near
             number: bytes,
         };
     }
-    let len = u64::trailing_zeros(marks) as usize / 8;
+    let len = swar::before_mark(marks);
     let bits = 8 * len;
     let above = 1u64 << bits;
     let number = bytes % above;

@@ -35,11 +35,11 @@ overflow_add-end c = omega (arith, there (goal.at.overflow_add-end c).Then-byte-
 pub returns-then-byte-gt32 : goal.returns-then-byte-gt32
 returns-then-byte-gt32 c =
     let a = c.args in
-    let n = c.tabs.result in
+    let n = c.run_of.result in
     let blank : is_blank a.mark (get_or a.src.now a.at 0) ≡ true = rw (feed (goal.at.returns-then-byte-gt32 c).Then-byte-mark, not-true a.mark (tests (goal.at.returns-then-byte-gt32 c).Then-byte-mark).1) feed_blank in
     sym (
     joined_start a.at (from a.mark a.src.now a.at)
     ∙ step_feed a.mark a.src.now a.at 0 None blank (feed (goal.at.returns-then-byte-gt32 c).Then-byte-mark)
-    ∙ step_tabs a.mark a.src.now n (a.at + 1) 1 (Some (a.at + 1)) c.tabs.ensures.each
+    ∙ step_tabs a.mark a.src.now n (a.at + 1) 1 (Some (a.at + 1)) c.run_of.ensures.each
     ∙ step_none a.mark a.src.now (a.at + 1 + n) 1 (Some (a.at + 1)) (blank_above a.mark _ (rw c.byte-then-byte-mark.ensures at c.if-byte-gt32.true))
     )

@@ -6,7 +6,4 @@ use Rattle.swar.specs.Number.{number_of}
 use Rattle.swar.proofs.last_bytes.Given as goal
 
 abbrev pub invariant-loop-i : goal.invariant-loop-i
-invariant-loop-i l = (l.i ≤ length l.s) × (min l.at (length l.s) ≤ l.i) × (l.number ≡ number_of (drop l.i l.s))
-
-abbrev pub decreases-loop-i : goal.decreases-loop-i
-decreases-loop-i l = l.i
+invariant-loop-i l = (min l.at (length l.s) ≤ l.i) × (l.number ≡ number_of (drop l.i l.s))

@@ -36,9 +36,6 @@ loop-body-preserved-then-is_block c =
     part_plain _ (to_stop a.stop) a.stop s (λ p h e r. stop_more s p h r a.stop c.requires e)
     16 c.loop-body.body (found (goal.at.loop-body-preserved-then-is_block c).Then-is_block) c.loop-body.invariant
 
-pub run_len-n-requires : goal.run_len-n-requires
-run_len-n-requires c = (c.requires, c.loop-body-test.true)
-
 pub overflow_add-body-in-loop-body : goal.overflow_add-body-in-loop-body
 overflow_add-body-in-loop-body c = omega (arith, c.run_len-n.ensures.0.fits)
 
