@@ -1,9 +1,8 @@
 // Whether a general comment ends its line.
-ghost use Rattle.std.specs.Prelude.{◌≡◌, false, not, ◌<◌, eqb, length, drop};
+ghost use Rattle.std.specs.Prelude.{◌≡◌, false, not, eqb, drop};
 ghost use Rattle.std.specs.List.{list_all, take_while};
 ghost use Rattle.blanks.specs.Blank.{is_space};
 ghost use Rattle.utf8.specs.Chars.{chars};
-ghost use Rattle.reader.specs.Read.{read_place};
 ghost use Rattle.spans.specs.Line.{blank_to_end, ends_line};
 ghost use Rattle.spans.specs.Steps.{stop_from};
 
@@ -31,17 +30,6 @@ fn blank_to_end(src: &[u8], at: usize) -> bool
     is_blank_line(&src[at.min(src.len())..])
 }
 
-// The place after the character at a place. Most are ASCII: for those no reader is made.
-fn next_place(src: &[u8], at: usize) -> usize
-    requires { at < length src.now }
-    ensures { result ≡ read_place src.now at }
-{
-    if src[at] < 128 {
-        return at + 1;
-    }
-    reader::place_after(src, at)
-}
-
 // Searches the end of a general comment, from after its opening, within its line.
 // A loop with a break value, and an enum of its own for it: the scope fixes this form.
 fn comment_end(src: &[u8], at: usize) -> Stop
@@ -57,7 +45,7 @@ fn comment_end(src: &[u8], at: usize) -> Stop
         if b == b'\n' {
             break Stop::End { lf: true };
         }
-        p = next_place(src, p);
+        p = reader::place_after(src, p);
         if star & (b == b'/') {
             break Stop::Closed(p);
         }
