@@ -19,9 +19,6 @@ returns-then-src-p c =
     let l = c.loop-o in
     sym (l.invariant.2 ∙ ap (sets l.table l.n) (starts_over _ _ _ _ _ c.if-src-p.true))
 
-pub next_place-p-requires : goal.next_place-p-requires
-next_place-p-requires c = c.if-src-p.false
-
 pub returns-then-table-n : goal.returns-then-table-n
 returns-then-table-n c =
     let l = c.loop-o in

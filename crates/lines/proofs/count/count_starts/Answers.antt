@@ -16,9 +16,6 @@ returns-then-src-p c =
     let l = c.loop-o in
     counted_all l.n (starts_over _ _ _ _ _ c.if-src-p.true) l.invariant.2
 
-pub next_place-p-requires : goal.next_place-p-requires
-next_place-p-requires c = c.if-src-p.false
-
 pub loop-o-preserved-then-b-eq10 : goal.loop-o-preserved-then-b-eq10
 loop-o-preserved-then-b-eq10 c =
     let l = c.loop-o in

@@ -11,6 +11,3 @@ pub overflow_add-result-2 : goal.overflow_add-result-2
 overflow_add-result-2 c =
     let r = c.char_at in
     omega (arith, there_fits _ _ r.result c.requires r.ensures)
-
-pub returns : goal.returns
-returns c = rw c.char_at.ensures
