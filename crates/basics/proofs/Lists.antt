@@ -8,9 +8,9 @@ use native.Mathlib.Nat.{le_of_suc-le-suc, not-suc-le-zero}
 use native.Mathlib.Omega.{arith}
 use native.Mathlib.Numerals.{add-one}
 use lib.Dec.{eqb}
-use lib.ListN.{length, take, drop, get_or, get_elem?, length-drop, drop_of_length-le}
+use lib.ListN.{length, take, drop, get_or, get_elem?, length-drop}
 use lib.Seq.{drop-cons, take-suc, get_or-drop}
-use borrow.Author.Tests.{eq-eqb, ne_eqb, eqb-true}
+use borrow.Author.Tests.{eq-eqb, eqb-true}
 use Rattle.basics.specs.Same.{same}
 use Rattle.basics.proofs.Choice.{and_split}
 
@@ -70,18 +70,3 @@ same_length [] [] h = absurd (h refl)
 same_length [] (y ∷ b) h = refl
 same_length (x ∷ a) [] h = refl
 same_length (x ∷ a) (y ∷ b) h = rw (same_length a b (λ e. h (ap suc e))) (and-false (eqb x y))
-
--- what is left of two lists, from a place on
-module _ (a b : List ℕ) (i : ℕ) where
-  pub same_end : length a ≤ i → length b ≤ i → same (drop i a) (drop i b) ≡ true
-  unfolding same
-  same_end h g = rw (drop_of_length-le a h, drop_of_length-le b g)
-
-  module _ (h : i < length a) (g : i < length b) where
-    pub same_next : get_or a i 0 ≡ get_or b i 0 → same (drop i a) (drop i b) ≡ same (drop (i + 1) a) (drop (i + 1) b)
-    unfolding same
-    same_next e = rw (drop_next a i 0 h, drop_next b i 0 g, eq-eqb _ _ e)
-
-    pub same_differ : (get_or a i 0 ≡ get_or b i 0 → ⊥) → same (drop i a) (drop i b) ≡ false
-    unfolding same
-    same_differ e = rw (drop_next a i 0 h, drop_next b i 0 g, ne_eqb _ _ e)

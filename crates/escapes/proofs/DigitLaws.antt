@@ -4,7 +4,7 @@ use mathlib.Core.Path.{◌≡◌, ap, ◌∙◌}
 use mathlib.Core.List.{List, [], ◌∷◌}
 use native.Mathlib.Omega.{arith}
 use native.Mathlib.Numerals.{add-one}
-use native.Mathlib.Nat.{add-zero, zero-add, pow-suc, pow-le-pow_right, mul-le-mul, suc-mul}
+use native.Mathlib.Nat.{add-zero, pow-suc, pow-le-pow_right, mul-le-mul, suc-mul}
 use lib.Dec.{ltb, lit≤}
 use lib.ListN.{length, get_or, drop}
 use borrow.Author.Tests.{lt-ltb, le-ltb}
@@ -30,9 +30,6 @@ base_most Hexadecimal = lit≤ tt
 abbrev pub grown : ℕ → Digits → Digits
 grown n d = record { value = d.value; len = n + d.len; error = d.error }
 
-grown_none : (d : Digits) → d ≡ grown 0 d
-grown_none d = rw (zero-add d.len)
-
 pub grown_more : (n : ℕ) (d : Digits) → grown n (one_digit_more d) ≡ grown (n + 1) d
 grown_more n d = let e : n + suc d.len ≡ n + 1 + d.len = omega arith in rw e
 
@@ -42,11 +39,6 @@ grown_stop n v e = rw (add-zero n)
 -- the digits that are left after the first so many of them
 abbrev pub left_of : ℕ → ℕ → List ℕ → ℕ → ℕ → ℕ → Digits
 left_of base count s at len v = escape_digits base (count - len) v (chars (drop (at + len) s))
-
-pub none_read : (base count : ℕ) (s : List ℕ) (at : ℕ) → escape_digits base count 0 (chars (drop at s)) ≡ grown 0 (left_of base count s at 0 0)
-none_read base count s at =
-    let whole : count - 0 ≡ count = omega arith in
-    rw (whole, add-zero at) (grown_none (escape_digits base count 0 (chars (drop at s))))
 
 module _ (base count : ℕ) (s : List ℕ) (at len v : ℕ) where
   pub all_read : count ≤ len → left_of base count s at len v ≡ no_more_digits v 0

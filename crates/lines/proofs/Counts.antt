@@ -9,12 +9,11 @@ use lib.Dec.{ltb}
 use lib.ListN.{length, length-append}
 use borrow.Author.Tests.{lt-ltb}
 use Rattle.utf8.specs.declared.Char.{Char}
-use Rattle.position.specs.Lines.{line_start}
 use Rattle.utf8.specs.Count.{is_lf, one, count}
 use Rattle.utf8.proofs.Count.{count_append}
-use Rattle.lines.specs.Starts.{read_lines, starts_read}
+use Rattle.lines.specs.Starts.{starts_read}
 use Rattle.lines.proofs.Writing.{starts_past}
-use Rattle.lines.proofs.Reading.{starts_append, read_new}
+use Rattle.lines.proofs.Reading.{starts_append}
 
 pub starts_le : (size o : ℕ) (cs : List Char) → length (starts_read size o cs) ≤ count is_lf cs
 unfolding starts_read
@@ -41,9 +40,6 @@ starts_count size o (c ∷ cs) h = rw (lt-ltb (suc o) size (omega arith)) (go (i
     go : (t : Bool) → length rest ≡ count is_lf cs → length (cond (t && true) (suc o ∷ rest) rest) ≡ one t + count is_lf cs
     go true e = omega arith
     go false e = omega arith
-
-pub read_count : (size o : ℕ) (cs : List Char) (starts : List ℕ) → line_start starts (length starts) ≤ o → o + length cs < size → length (read_lines size o cs starts) ≡ length starts + count is_lf cs
-read_count size o cs starts h l = rw (read_new size o cs starts h, length-append, starts_count size o cs l)
 
 -- the last character gives none
 pub starts_last : (size o : ℕ) (cs : List Char) (c : Char) → size ≤ suc (o + length cs) → starts_read size o (cs ++ (c ∷ [])) ≡ starts_read size o cs

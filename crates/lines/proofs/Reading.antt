@@ -64,7 +64,3 @@ unfolding read_lines
 read_any_size size other o [] starts h g = refl
 read_any_size size other o (c ∷ cs) starts h g =
     rw (lt-ltb (suc o) size (omega arith), lt-ltb (suc o) other (omega arith)) (read_any_size size other (suc o) cs _ (omega arith) (omega arith))
-
-pub starts_any_size : (size other o : ℕ) (cs : List Char) → o + length cs < size → o + length cs < other → starts_read size o cs ≡ starts_read other o cs
-starts_any_size size other o cs h g =
-    sym (read_new size o cs [] (omega arith)) ∙ read_any_size size other o cs [] h g ∙ read_new other o cs [] (omega arith)

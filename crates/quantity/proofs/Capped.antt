@@ -1,11 +1,11 @@
 -- Laws of numbers that 64 bits hold or do not, and of products with powers.
-use Prim.Native.Nat.{ℕ, suc, ◌+◌, ◌*◌, ◌-◌, ◌%◌, ◌^◌, ◌≤◌, ◌<◌}
+use Prim.Native.Nat.{ℕ, ◌+◌, ◌*◌, ◌%◌, ◌^◌, ◌≤◌, ◌<◌}
 use mathlib.Core.Path.{◌≡◌, sym, ap, ◌∙◌}
 use mathlib.Core.Bool.{true, false}
 use mathlib.Core.Logic.{◌≢◌, ⊎_elim}
 use native.Mathlib.Omega.{arith}
 use native.Mathlib.Numerals.{add-one}
-use native.Mathlib.Nat.{mul-one, pow-zero, add-zero, add_comm, add-mul-mod_self_right, mod-eq_of_lt, mul_assoc, mul_right_comm, pow-suc, one-le-pow, le-mul_of_pos_right, mul_comm, pow-le-pow_left, pow-le-pow_right, le_trans}
+use native.Mathlib.Nat.{mul-one, pow-zero, add-zero, add_comm, add-mul-mod_self_right, mod-eq_of_lt, mul_assoc, pow-suc, one-le-pow, le-mul_of_pos_right, mul_comm, pow-le-pow_left, pow-le-pow_right, le_trans}
 use lib.Dec.{ltb}
 use borrow.Author.Tests.{lt-ltb, le-ltb, ltb-true, ltb-false}
 use Rattle.basics.proofs.Choice.{either}
@@ -52,7 +52,7 @@ base_two Octal = omega arith
 base_two Decimal = omega arith
 base_two Hexadecimal = omega arith
 
--- ---- one factor more
+-- ---- a number times a power of the base
 module _ (base : ℕ) (two : 2 ≤ base) where
   pub pow_pos : (k : ℕ) → 0 < base ^ k
   pow_pos k = one-le-pow k base (omega arith)
@@ -64,12 +64,6 @@ module _ (base : ℕ) (two : 2 ≤ base) where
 
   pub far_power : (x k : ℕ) → 0 < x → 2 ^ 64 ≤ base ^ k → 2 ^ 64 ≤ x * base ^ k
   far_power x k some l = le_trans l (rw (mul_comm x (base ^ k)) (le-mul_of_pos_right (base ^ k) some))
-
-  one_more : (x k : ℕ) → x * base ^ suc k ≡ x * base * base ^ k
-  one_more x k = ap (λ y. x * y) (pow-suc base k) ∙ sym (mul_assoc x (base ^ k) base) ∙ mul_right_comm x (base ^ k) base
-
-  pub one_less : (x k : ℕ) → 0 < k → x * base ^ k ≡ x * base * base ^ (k - 1)
-  one_less x k h = let e : k ≡ suc (k - 1) = omega arith in ap (λ i. x * base ^ i) e ∙ one_more x (k - 1)
 
   pub least : (x k : ℕ) → x ≤ x * base ^ k
   least x k = le-mul_of_pos_right x (pow_pos k)

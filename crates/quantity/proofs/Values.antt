@@ -1,18 +1,16 @@
 -- The pairs of the numbers that texts denote.
 use Prim.Native.Nat.{ℕ, ◌+◌, ◌*◌, ◌^◌, ◌%◌, ◌≤◌}
-use Prim.Native.Char.{code}
 use mathlib.Core.Path.{◌≡◌, refl, sym, ap, ◌∙◌}
 use mathlib.Core.Bool.{Bool, true, false}
 use mathlib.Core.Logic.{◌≢◌, inl}
 use mathlib.Core.List.{List}
-use lib.ListN.{drop}
 use native.Mathlib.Nat.{mul_assoc, mul-one, zero-mul}
 use lib.Pow.{pow-add}
 use lib.Dec.{lit<, lit≤}
 use Rattle.refusal.specs.Outcome.{refused}
 use Rattle.refusal.specs.Refusals.{NO_PAIR}
 use Rattle.quantity.specs.Pair.{pair, pair_of}
-use Rattle.quantity.specs.Text.{first_at, digits_of, digit_count, is_negative, scaled_by, decimal_by, whole_in}
+use Rattle.quantity.specs.Text.{digits_of, is_negative, scaled_by, decimal_by, whole_in}
 use Rattle.quantity.specs.Figures.{Denotes, TooLong}
 use Rattle.quantity.proofs.Search.{ten_pos, pair_found}
 use Rattle.quantity.proofs.Shifts.{wide}
@@ -48,7 +46,3 @@ module _ (figures exponent : List ℕ) where
   module _ (m z : ℕ) (is : digits_of 10 figures ≡ m * 10 ^ z) where
     pub decimal_zero : m ≡ 0 → pair_of (decimal_by figures exponent) ≡ pair 0 0
     decimal_zero n = zero_pair (digits_of 10 figures) _ _ (is_negative exponent) (is ∙ ap (λ i. i * 10 ^ z) n ∙ zero-mul (10 ^ z))
-
-    pub decimal_some : (p places : ℕ) → p ≡ first_at (code ".") figures → places ≡ digit_count (drop p figures)
-        → scaled_by (m * 10 ^ z) places (is_negative exponent) (digits_of 10 exponent) ≡ decimal_by figures exponent
-    decimal_some p places f g = rw (← is, g, f)

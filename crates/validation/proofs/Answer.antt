@@ -4,7 +4,7 @@ use mathlib.Core.Path.{◌≡◌, ap, ap₂, ◌∙◌}
 use mathlib.Core.Bool.{true, false, cond}
 use mathlib.Core.List.{List, ◌∷◌}
 use native.Mathlib.Omega.{arith}
-use native.Mathlib.Nat.{add-zero, zero-add}
+use native.Mathlib.Nat.{add-zero}
 use lib.Dec.{ltb}
 use lib.ListN.{length, get_or, take, drop}
 use borrow.Author.Tests.{ltb-true, ne_eqb}
@@ -12,16 +12,13 @@ use Rattle.basics.proofs.Choice.{and_split}
 use Rattle.basics.proofs.Lists.{drop_next}
 use Rattle.utf8.specs.declared.Char.{Char}
 use Rattle.utf8.specs.Chars.{char_at, chars, is_stray, no_stray, bytes_before}
-use Rattle.validation.specs.Answers.{Checking, valid, not_utf8, checked_of}
+use Rattle.validation.specs.Answers.{Checking, valid, not_utf8}
 use Rattle.validation.specs.Steps.{all_ascii}
 use Rattle.utf8.proofs.First.{there_chars, ascii, chars_ascii, chars_end}
 
 -- the answer of a text whose first `count` characters, in `at` bytes, are well formed, and whose others are cs
 abbrev pub checked_from : ℕ → ℕ → List Char → Checking
 checked_from count at cs = cond (no_stray cs) (valid (count + length cs)) (not_utf8 (at + bytes_before cs))
-
-pub checked_start : (s : List ℕ) → checked_of s ≡ checked_from 0 0 (chars s)
-checked_start s = simp zero-add
 
 next : (count at : ℕ) (c : Char) (cs : List Char) → is_stray c ≡ false → checked_from count at (c ∷ cs) ≡ checked_from (count + 1) (at + c.width) cs
 next count at c cs e =

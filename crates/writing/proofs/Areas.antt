@@ -1,12 +1,10 @@
 -- Laws of writing to an area.
-use Prim.Native.Nat.{ℕ, suc, ◌+◌, ◌≤◌, ◌<◌}
+use Prim.Native.Nat.{ℕ, suc, ◌≤◌}
 use mathlib.Core.Path.{◌≡◌, refl, sym, ap, ◌∙◌}
 use mathlib.Core.List.{List, [], ◌∷◌, ◌++◌, append-nil}
 use native.Mathlib.Omega.{arith}
-use native.Mathlib.Numerals.{add-one}
-use lib.ListN.{length, get_or, drop, set, drop_of_length-le}
+use lib.ListN.{length}
 use lib.Seq.{sets, set_out}
-use Rattle.basics.proofs.Lists.{drop_next}
 use Rattle.writing.specs.Writes.{Writes}
 
 -- past the end nothing is written
@@ -16,9 +14,6 @@ sets_out area to (b ∷ bytes) h = rw (set_out area to b h) (sets_out area (suc 
 
 pub no_byte : (area : List ℕ) (to b : ℕ) → length area ≤ to → Writes area to (b ∷ []) area to
 no_byte area to b h rest = sets_out area to (b ∷ rest) h ∙ sym (sets_out area to rest h)
-
-pub one_byte : (area : List ℕ) (to b : ℕ) → Writes area to (b ∷ []) (set area to b) (to + 1)
-one_byte area to b rest = rw add-one
 
 -- the same bytes in other words
 pub writes_as : (area : List ℕ) (to : ℕ) {x y : List ℕ} (after : List ℕ) (next : ℕ) → x ≡ y → Writes area to y after next → Writes area to x after next
@@ -47,11 +42,3 @@ module _ (area : List ℕ) (n : ℕ) {whole left : List ℕ} (to-do : whole ≡ 
 pub left_as_with_rest : (area : List ℕ) (n : ℕ) {whole : List ℕ → List ℕ} {left bytes : List ℕ} → left ≡ bytes → ((rest : List ℕ) → whole rest ≡ sets area n (left ++ rest))
     → (rest : List ℕ) → whole rest ≡ sets area n (bytes ++ rest)
 left_as_with_rest area n e to-do rest = to-do rest ∙ ap (λ z. sets area n (z ++ rest)) e
-
--- of a list, what is left from a place on: its next byte, or nothing
-pub next_byte : (area : List ℕ) (to : ℕ) (bytes : List ℕ) (k : ℕ) (after : List ℕ) (next : ℕ) → k < length bytes → Writes area to (get_or bytes k 0 ∷ []) after next
-    → (rest : List ℕ) → sets area to (drop k bytes ++ rest) ≡ sets after next (drop (k + 1) bytes ++ rest)
-next_byte area to bytes k after next h w rest = rw (drop_next bytes k 0 h) (w (drop (k + 1) bytes ++ rest))
-
-pub no_more : (area : List ℕ) (to : ℕ) (bytes : List ℕ) (k : ℕ) → length bytes ≤ k → Writes area to (drop k bytes) area to
-no_more area to bytes k h rest = rw (drop_of_length-le bytes h)

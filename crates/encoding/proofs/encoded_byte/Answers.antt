@@ -3,13 +3,8 @@ use Prim.Native.Nat.{◌-◌}
 use mathlib.Core.Path.{sym, ◌∙◌}
 use native.Mathlib.Omega.{arith}
 use borrow.Author.Tests.{ne_eqb}
-use lib.ListN.{get_or-eq_default}
-use Rattle.utf8.specs.Chars.{encode}
 use Rattle.encoding.proofs.Written.{encode_at, code_limit, digit_most, lead_most}
 use Rattle.encoding.proofs.encoded_byte.Goals as goal
-
-pub returns-then-n-k : goal.returns-then-n-k
-returns-then-n-k c = sym (get_or-eq_default (encode c.args.code) 0 (omega (arith, c.encoded_len-n.ensures)))
 
 pub overflow_add-result : goal.overflow_add-result
 overflow_add-result c =

@@ -1,26 +1,13 @@
 -- A word of at most eight bytes is searched by its slot; a longer one is compared.
 use mathlib.Core.Path.{◌≡◌, ap, ◌∙◌}
 use borrow.Author.Rules.{rules}
-use native.Mathlib.Omega.{arith}
-use lib.ListN.{take, length-take}
+use lib.ListN.{take}
 use Rattle.kinds.specs.Table.{ident_token, keywords}
 use Rattle.kinds.specs.Number.{kind_number}
 use Rattle.keywords.specs.Search.{slot_of, pair, row_in}
-use Rattle.keywords.proofs.Search.{searched, search_hit, search_miss, word_searched, take_least}
+use Rattle.keywords.proofs.Search.{searched, search_hit, search_miss, word_searched}
 use Rattle.keywords.proofs.ident_token.Goals as goal
 use Rattle.keywords.proofs.ident_token.Goals.{After-row_in-row}
-
-pub slice_bounds-long_word-end : goal.slice_bounds-long_word-end
-slice_bounds-long_word-end c = omega (arith, length-take c.min-n.result c.args.text.now)
-
-pub long_word-requires : goal.long_word-requires
-long_word-requires c = omega (arith, length-take c.min-n.result c.args.text.now)
-
-pub returns-then-n-gt8 : goal.returns-then-n-gt8
-returns-then-n-gt8 c =
-    c.long_word.ensures
-    ∙ ap (λ n. ident_token (take n c.args.text.now)) c.min-n.ensures
-    ∙ ap ident_token (take_least c.args.len c.args.text.now)
 
 -- what the search has found is the kind
 found : (c : After-row_in-row)

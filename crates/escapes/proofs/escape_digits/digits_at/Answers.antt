@@ -1,19 +1,13 @@
 use Prim.Native.Nat.{◌+◌, ◌*◌, ◌≤◌, ◌<◌}
 use mathlib.Core.Path.{◌≡◌, sym, ap, ◌∙◌}
 use native.Mathlib.Omega.{arith}
-use lib.Dec.{lit<}
 use lib.ListN.{get_or}
 use Rattle.digits.specs.Base.{base_number}
 use Rattle.digits.specs.Digit.{digit_val}
 use Rattle.escapes.specs.Steps.{whole}
-use Rattle.escapes.proofs.DigitLaws.{base_most, grown, grown_more, grown_stop, none_read, all_read, next_cut, next_off, next_digit, grow, room}
+use Rattle.escapes.proofs.DigitLaws.{base_most, grown, grown_more, grown_stop, all_read, next_cut, next_off, next_digit, grow, room}
 use Rattle.escapes.proofs.escape_digits.digits_at.Goals as goal
 use Rattle.escapes.proofs.escape_digits.digits_at.Goals.{In-Some, Else-radix-d}
-
-pub loop-len-init : goal.loop-len-init
-loop-len-init c =
-    let a = c.args in
-    (omega arith, lit< tt, none_read (base_number a.base) a.count a.src.now a.at)
 
 pub returns-in_default : goal.returns-in_default
 returns-in_default c =

@@ -1,7 +1,7 @@
 -- `class::sets_mark` meets its contract: each kind is computed.
 use Prim.Native.Nat.{ℕ, zero, suc, ◌+◌, ◌<◌, ◌≤◌, ◌/◌, ◌%◌, ◌^◌}
 use mathlib.Core.Path.{◌≡◌, ap, ◌∙◌}
-use mathlib.Core.Bool.{Bool, false, cond, beq}
+use mathlib.Core.Bool.{Bool, cond, beq}
 use native.Mathlib.Omega.{arith}
 use lib.Dec.{eqb}
 use lib.Bits.{bit_and}
@@ -26,12 +26,6 @@ low k h = same_test _ _ (every_within (λ k. beq (bit (marks 0 64) k) (sets_mark
 
 high : (k : ℕ) → 64 ≤ k → k < 128 → bit (marks 64 64) k ≡ sets_mark k
 high k l h = same_test _ _ (every_within (λ k. beq (bit (marks 64 64) k) (sets_mark k)) 64 64 tt k l h)
-
-none : (k : ℕ) → 127 < k → k < 256 → false ≡ sets_mark k
-none k l h = same_test _ _ (every_within (λ k. beq false (sets_mark k)) 128 128 tt k l h)
-
-pub returns-then-kind-gt127 : goal.returns-then-kind-gt127
-returns-then-kind-gt127 c = none _ c.if-kind-gt127.true (search rules)
 
 pub returns : goal.returns
 returns c =

@@ -1,4 +1,4 @@
-use mathlib.Core.Path.{◌≡◌, refl, sym, ap, ◌∙◌}
+use mathlib.Core.Path.{◌≡◌, sym, ap, ◌∙◌}
 use native.Mathlib.Omega.{arith}
 use borrow.Author.Rules.{rules}
 use lib.Dec.{ltb}
@@ -11,9 +11,6 @@ returns-then-s-lt32 c = sym (block_short c.args.s.now c.args.at (omega arith))
 
 pub returns-then-s-at : goal.returns-then-s-at
 returns-then-s-at c = sym (block_short c.args.s.now c.args.at (omega arith))
-
-pub loop-k-init : goal.loop-k-init
-loop-k-init c = (search rules, omega arith, refl)
 
 pub loop-k-preserved : goal.loop-k-preserved
 loop-k-preserved c =

@@ -10,12 +10,6 @@ use Rattle.writing.proofs.Texts.{text_at, text_none, text_end, text_kept, text_d
 use Rattle.writing.proofs.chars.write_chars.Goals as goal
 use Rattle.writing.proofs.chars.write_chars.Goals.{then-crs-is_cr, else-crs-is_cr}
 
-pub loop-k-init : goal.loop-k-init
-loop-k-init c =
-    let a = c.args in
-    let all : a.count ≡ a.count - 0 = omega arith in
-    λ rest. ap (λ (n : ℕ). sets a.area.now a.to (text_at a.crs n a.src.now a.at ++ rest)) all
-
 pub returns-then-src-p : goal.returns-then-src-p
 returns-then-src-p c =
     let a = c.args in

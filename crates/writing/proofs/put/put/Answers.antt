@@ -1,9 +1,6 @@
 -- `writing::put::put` meets its contract.
-use Rattle.writing.proofs.Areas.{no_byte, one_byte}
+use Rattle.writing.proofs.Areas.{no_byte}
 use Rattle.writing.proofs.put.put.Goals as goal
-
-pub returns-then-to-area : goal.returns-then-to-area
-returns-then-to-area c = one_byte c.args.area.now c.args.to c.args.b
 
 pub returns : goal.returns
 returns c = no_byte c.args.area.now c.args.to c.args.b c.if-to-area.false

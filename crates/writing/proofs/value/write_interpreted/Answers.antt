@@ -1,5 +1,5 @@
 use Prim.Native.Nat.{◌+◌, ◌^◌, ◌≤◌, ◌<◌}
-use mathlib.Core.Path.{refl, ap, ◌∙◌}
+use mathlib.Core.Path.{ap, ◌∙◌}
 use native.Mathlib.Omega.{arith}
 use lib.ListN.{length}
 use Rattle.utf8.proofs.First.{there_fits, there_least}
@@ -25,9 +25,6 @@ char_within c = there_fits _ _ c.char_at-c.result c.loop-p-test.true c.char_at-c
 
 char_least : (c : After-char_at-c) → 1 ≤ c.char_at-c.result.width
 char_least c = there_least _ _ c.char_at-c.result c.loop-p-test.true c.char_at-c.ensures
-
-pub loop-p-init : goal.loop-p-init
-loop-p-init c = refl
 
 pub returns-then-b-eq34 : goal.returns-then-b-eq34
 returns-then-b-eq34 c =

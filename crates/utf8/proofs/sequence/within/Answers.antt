@@ -1,9 +1,0 @@
--- `utf8::within` meets its contract: the first test that fails decides, and otherwise the second test is the answer.
-use borrow.Author.Tests.{le-leb, lt-leb}
-use Rattle.utf8.proofs.sequence.within.Goals as goal
-
-pub returns-then-lo-b : goal.returns-then-lo-b
-returns-then-lo-b c = simp (le-leb _ _ c.if-lo-b.true)
-
-pub returns-else-lo-b : goal.returns-else-lo-b
-returns-else-lo-b c = simp (lt-leb _ _ c.if-lo-b.false)
