@@ -1,4 +1,4 @@
--- A decimal integer that was written is one that the lexer says.
+-- A decimal integer that was given is one that the lexer says.
 use Prim.Native.Nat.{ℕ, ◌+◌, ◌-◌, ◌≤◌, ◌<◌}
 use mathlib.Core.Path.{◌≡◌, refl, sym, ap, ◌∙◌}
 use mathlib.Core.Bool.{Bool, true, false, not, ◌||◌, true≢false}
@@ -10,7 +10,6 @@ use native.Mathlib.Decide.{dec_lt}
 use Rattle.std.specs.Prelude.{None}
 use lib.Dec.{eqb}
 use lib.ListN.{get_or, drop}
-use lib.Seq.{sets}
 use borrow.Author.Tests.{ne_eqb}
 use Rattle.basics.proofs.Choice.{either, between_true, true_of}
 use Rattle.basics.proofs.Every.{every_below}
@@ -31,7 +30,7 @@ use Rattle.lexer.specs.Placed.{placed, said}
 use Rattle.lexer.proofs.Ways.{number_there}
 use Rattle.lexer.proofs.Numerals.{numeral_at, numeral_said}
 use Rattle.lexer.proofs.Dispatch.{number_is}
-use Rattle.parts.specs.Layout.{token_numbers}
+use Rattle.batch.specs.declared.next.Next.{Next}
 use Rattle.batch.specs.Simple.{rows_from, first_kind, simple_token, Gave}
 use Rattle.batch.proofs.SimpleTokens.{letter_past}
 use Rattle.batch.proofs.Giving.{gives_plain}
@@ -76,12 +75,11 @@ module _ (src : List ℕ) (at end : ℕ) (some : at < end) (all : (p : ℕ) → 
       ∙ ap (placed src at)
       (number_is m src at (reach src at (omega (arith, between_true 48 (get_or src at 0) 57 first))) (get_or src (at + 1) 0) refl no_letter (rw first))
 
-  pub gives_integer : (safe position : ℕ) (tokens : List ℕ) (to : ℕ) → end < safe + 16
-      → {tokens' : List ℕ} → tokens' ≡ sets tokens to (token_numbers (simple_token INT false position at end))
-      → Gave src at safe position tokens to (record { place = end; mark = true }) tokens'
-  gives_integer safe position tokens to near w =
+  pub gives_integer : (safe position : ℕ) → end < safe + 16
+      → {r : Next} → r ≡ record { token = simple_token INT false position at end; place = end; mark = true } → Gave src at safe position r
+  gives_integer safe position near e =
       let whole : at + (end - at) ≡ end = omega arith in
-      gives_plain src at safe position tokens to Int end (end - at) false true (NumberText Same) (end - at) integer_reads refl refl refl near refl (w ∙ rw whole)
+      gives_plain src at safe position Int end (end - at) false true (NumberText Same) (end - at) integer_reads refl refl refl near (e ∙ rw whole)
 
 -- the digits from a place on are some, if the first byte is one
 pub some_digit : (src : List ℕ) (at safe end : ℕ) → at < safe → at ≤ end → is_decimal (get_or src at 0) ≡ true

@@ -119,7 +119,7 @@ module _ (src : List ℕ) (first : State) (safe : ℕ) (is-safe : IsSafe src fir
   is_lined h = (over, lined n.line line_between.0 line_between.1 h)
 
   -- a simple token after them
-  module _ {tokens tokens' : List ℕ} {to : ℕ} {r : Next} (g : Gave src n.end safe (first.base + first.offset + (n.end - first.place)) tokens to r tokens')
+  module _ {r : Next} (g : Gave src n.end safe (first.base + first.offset + (n.end - first.place)) r)
       {table' : List ℕ} (w : Recorded here (near_as at.place n) table table') where
     abbrev there : State
     there = state_at first r.place r.mark (at.lines + feeds_of n.line) table'
@@ -158,19 +158,24 @@ module _ (src : List ℕ) (first : State) (safe : ℕ) (is-safe : IsSafe src fir
     step_fits : fits there src table' list ≡ true
     step_fits = subst (λ t. fits t src table' list ≡ true) there_is (scanned_fits src here table list scanned holds)
 
-    step_more : (room count : ℕ) → to ≡ count * token_width → count < room → (area : List ℕ)
-        → left_after count tokens (many_of (room - count) src here table list area) ≡ left_after (count + 1) tokens' (many_of (room - (count + 1)) src there table' list area)
-    step_more room count here-is h area =
+    given_is : r.token ≡ given
+    given_is =
         let e : first.base + first.offset + (n.end - first.place) ≡ first.base + (first.offset + (at.place - first.place)) + (n.end - at.place) = omega (arith, over, start_past) in
-        let written : tokens' ≡ sets tokens (count * token_width) (token_numbers given) = g.written ∙ rw (here-is, e) in
-        scanned_more src here table list scanned on room count tokens area h
-        ∙ ap (λ l. left_after (count + 1) l (many_of (room - (count + 1)) src stepped table' list area)) (sym written)
-        ∙ ap (λ t. left_after (count + 1) tokens' (many_of (room - (count + 1)) src t table' list area)) there_is
+        g.token ∙ rw e
 
-    pub steps : (lines' : ℕ) → to ≡ at.count * token_width → lines' ≡ at.lines + feeds_of n.line
+    -- and written after those before it
+    step_more : (tokens tokens' : List ℕ) → tokens' ≡ sets tokens (at.count * token_width) (token_numbers r.token) → (room : ℕ) → at.count < room → (area : List ℕ)
+        → left_after at.count tokens (many_of (room - at.count) src here table list area) ≡ left_after (at.count + 1) tokens' (many_of (room - (at.count + 1)) src there table' list area)
+    step_more tokens tokens' p room h area =
+        let written : tokens' ≡ sets tokens (at.count * token_width) (token_numbers given) = p ∙ ap (λ t. sets tokens (at.count * token_width) (token_numbers t)) given_is in
+        scanned_more src here table list scanned on room at.count tokens area h
+        ∙ ap (λ l. left_after (at.count + 1) l (many_of (room - (at.count + 1)) src stepped table' list area)) (sym written)
+        ∙ ap (λ t. left_after (at.count + 1) tokens' (many_of (room - (at.count + 1)) src t table' list area)) there_is
+
+    pub steps : (tokens tokens' : List ℕ) → tokens' ≡ sets tokens (at.count * token_width) (token_numbers r.token) → (lines' : ℕ) → lines' ≡ at.lines + feeds_of n.line
         → StepsTo src list first at table tokens (Some (record { place = r.place; mark = r.mark; lines = lines'; count = at.count + 1 })) table' tokens'
-    steps lines' here-is e = (
+    steps tokens tokens' p lines' e = (
       step_over,
       refl,
-      λ room h. rw e (record { fit = step_fits; over = omega arith; within = omega arith; left = step_more room at.count here-is h; same = λ z. absurd (omega (arith, z)) }),
+      λ room h. rw e (record { fit = step_fits; over = omega arith; within = omega arith; left = step_more tokens tokens' p room h; same = λ z. absurd (omega (arith, z)) }),
     )

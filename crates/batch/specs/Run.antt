@@ -16,7 +16,11 @@ use Rattle.batch.specs.declared.step.Reached.{Reached}
 use Rattle.batch.specs.declared.near.Near.{Near}
 use Rattle.batch.specs.declared.run.Batch.{Batch}
 use Rattle.batch.specs.Near.{near_as}
-use Rattle.batch.specs.Many.{stopped, many_of, left_after}
+use Rattle.batch.specs.Many.{stopped, many_of, token_room, left_after}
+
+-- there is room for a token after so many
+abbrev pub HasRoom : ℕ → List ℕ → Type 0
+HasRoom count tokens = count < token_room tokens
 
 -- the state at a place after simple tokens, whose characters are of one byte each; the table has the
 -- line starts before it

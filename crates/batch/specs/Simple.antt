@@ -1,7 +1,6 @@
 -- Steps of the code. No public contract cites this file. Simple tokens, as the code of many scans reads them.
-use Rattle.std.specs.Prelude.{ℕ, ◌+◌, ◌-◌, ◌<◌, ◌≡◌, Bool, true, false, cond, List, [], ◌∷◌, eqb, length, drop, get_or, Option, MatchOption}
+use Rattle.std.specs.Prelude.{ℕ, ◌+◌, ◌-◌, ◌<◌, ◌≡◌, Bool, true, false, cond, List, [], ◌∷◌, eqb, length, drop, get_or, Option, IfSome}
 use Prim.Native.Char.{code}
-use Rattle.std.proofs.lemmas.List.Edits.{sets}
 use Rattle.utf8.specs.Chars.{chars}
 use Rattle.digits.specs.Digit.{is_decimal}
 use Rattle.kinds.specs.Kinds.{ILLEGAL, EOF, IDENT, INT, STRING, ADD, PERIOD}
@@ -16,7 +15,7 @@ use Rattle.lexer.specs.Lex.{lex_token}
 use Rattle.lexer.specs.Placed.{placed, said}
 use Rattle.parts.specs.declared.token.Token.{Token}
 use Rattle.batch.specs.declared.next.Next.{Next}
-use Rattle.parts.specs.Layout.{token_numbers}
+use Rattle.batch.specs.declared.start.Start.{Start}
 use Rattle.scanner.specs.Steps.{is_plain, token_by}
 
 -- the rows whose name starts with a byte
@@ -86,10 +85,14 @@ string_token position start close =
 abbrev pub word_token : ℕ → ℕ → ℕ → ℕ → Token
 word_token kind position at end = simple_token kind false position at (cond (eqb kind IDENT) end at)
 
+-- a letter is at a place where a token starts
+abbrev pub StartsWord : Start → Type 0
+StartsWord start = is_letter (get_or start.src.now start.at 0) ≡ true
+
 -- what was given is what the lexer says of the token at a place, whatever the mark is: a plain
 -- token of ASCII characters, no line feed among them, that ends at most sixteen bytes after the
 -- safe place
-pub record Gave (src : List ℕ) (at safe position : ℕ) (tokens : List ℕ) (to : ℕ) (r : Next) (tokens' : List ℕ) : Type 0 where
+pub record Gave (src : List ℕ) (at safe position : ℕ) (r : Next) : Type 0 where
   pub x : Lexed
   pub reads : (mark : Bool) → said src at x ≡ placed src at (lex_token mark (chars (drop at src)))
   pub plain : is_plain x ≡ true
@@ -97,10 +100,14 @@ pub record Gave (src : List ℕ) (at safe position : ℕ) (tokens : List ℕ) (t
   pub feeds : x.lfs ≡ 0
   pub known : eqb (kind_number x.kind) EOF ≡ false
   pub near : x.end < safe + 16
+  pub token : r.token ≡ token_by x at position
   pub place : r.place ≡ x.end
   pub mark : r.mark ≡ x.mark
-  pub written : tokens' ≡ sets tokens to (token_numbers (token_by x at position))
 
--- where none is found, nothing is written
-abbrev pub GivesSimple : List ℕ → ℕ → ℕ → ℕ → List ℕ → ℕ → Option Next → List ℕ → Type 0
-GivesSimple src at safe position tokens to r tokens' = MatchOption r (tokens' ≡ tokens) (λ next. Gave src at safe position tokens to next tokens')
+-- the same of what was given where a token starts
+abbrev pub Gives : Start → Next → Type 0
+Gives start next = Gave start.src.now start.at start.safe start.position next
+
+-- if it was given
+abbrev pub GivesSimple : Start → Option Next → Type 0
+GivesSimple start r = IfSome r (Gives start)

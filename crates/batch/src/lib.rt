@@ -9,6 +9,7 @@ mod next;
 mod round;
 mod run;
 mod simple;
+mod start;
 mod step;
 mod tables;
 mod word;

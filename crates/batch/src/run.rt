@@ -1,11 +1,12 @@
 // Runs of simple tokens.
-ghost use Rattle.std.specs.Prelude.{◌≡◌, true, ◌+◌, ◌-◌, ◌*◌, ◌≤◌, ◌<◌, ◌^◌, length};
+ghost use Rattle.std.specs.Prelude.{◌≡◌, true, ◌+◌, ◌-◌, ◌≤◌, ◌<◌, ◌^◌, length};
 ghost use Rattle.state.specs.Fits.{fits};
-ghost use Rattle.parts.specs.Layout.{token_width};
-ghost use Rattle.batch.specs.Run.{reached, start_at, IsSafe, Leads};
+ghost use Rattle.batch.specs.Many.{token_room};
+ghost use Rattle.batch.specs.Run.{reached, start_at, HasRoom, IsSafe, Leads};
 
 use crate::step::{Reached, next_simple};
 use crate::tables::Tables;
+use parts::Token;
 use position::Line;
 use state::State;
 
@@ -61,13 +62,13 @@ pub(crate) fn run_simple(
     table: &mut [usize],
     list: &[usize],
     tokens: &mut [usize],
-    room: usize,
 ) -> Batch
-    requires { (fits from.state src.now table.old list.now ≡ true) × (from.count < room) × (room * token_width ≤ length tokens.old) }
-    ensures { Leads room src.now list.now from.state table.old tokens.old from.count result.state table.new tokens.new result.count }
+    requires { (fits from.state src.now table.old list.now ≡ true) × HasRoom from.count tokens.old }
+    ensures { Leads (token_room tokens.old) src.now list.now from.state table.old tokens.old from.count result.state table.new tokens.new result.count }
 {
     let first = from.state;
     let safe = safe_end(src, first);
+    let room = tokens.len() / Token::NUMBERS;
     let mut at = start_at(from);
     while at.count < room {
         match next_simple(src, tables, first, safe, at, table, list, tokens) {

@@ -1,14 +1,14 @@
 // A step of a run: blanks, and one simple token after them.
-ghost use Rattle.std.specs.Prelude.{◌≡◌, true, ℕ, ◌+◌, ◌-◌, ◌*◌, ◌≤◌, ◌<◌, length};
+ghost use Rattle.std.specs.Prelude.{◌≡◌, true, ℕ, ◌+◌, ◌≤◌, ◌<◌, length};
 ghost use Rattle.state.specs.Fits.{fits};
-ghost use Rattle.parts.specs.Layout.{token_width};
 ghost use Rattle.batch.specs.Near.{feeds_of, near_as};
-ghost use Rattle.batch.specs.Run.{reached, IsSafe, Recorded, IsReady, ReadyAt, IsLined, StepsTo};
+ghost use Rattle.batch.specs.Run.{reached, HasRoom, IsSafe, Recorded, IsReady, ReadyAt, IsLined, StepsTo};
 
+use crate::layout::put_token_at;
 use crate::near::{Near, near_blanks};
 use crate::simple::give_simple;
+use crate::start::Start;
 use crate::tables::Tables;
-use parts::Token;
 use state::State;
 
 // How far a run of simple tokens has come: the place, the mark and the count of line starts there,
@@ -75,14 +75,18 @@ pub(crate) fn next_simple(
     tokens: &mut [usize],
 ) -> Option<Reached>
     requires { (fits (reached first at table.old) src.now table.old list.now ≡ true) × (first.place ≤ at.place) × IsSafe src.now first safe
-        × (at.count * token_width + token_width ≤ length tokens.old) }
+        × HasRoom at.count tokens.old }
     ensures { StepsTo src.now list.now first at table.old tokens.old result table.new tokens.new }
 {
     let blanks = ready_blanks(src, safe, at, table)?;
-    let start = blanks.end;
-    let position = first.base + first.offset + (start - first.place);
-    let to = at.count * Token::NUMBERS;
-    let next = give_simple(src, tables, start, safe, position, tokens, to)?;
+    let start = Start {
+        src,
+        at: blanks.end,
+        safe,
+        position: first.base + first.offset + (blanks.end - first.place),
+    };
+    let next = give_simple(start, tables)?;
+    put_token_at(next.token, tokens, at.count);
     let lines = record_line(first, at, blanks, table);
     Some(Reached {
         place: next.place,

@@ -1,19 +1,27 @@
 -- `round::scan_round` meets its contract.
+use mathlib.Core.Path.{◌≡◌}
 use native.Mathlib.Omega.{arith}
+use lib.ListN.{length}
+use Rattle.batch.specs.Many.{token_room}
 use Rattle.batch.proofs.Rounds.{goes_run, ends_run, comes_behind}
 use Rattle.batch.proofs.round.scan_round.Goals as goal
 
-pub returns-then-run-room : goal.returns-then-run-room
-returns-then-run-room c = ends_run c.args.room c.args.src.now c.run_simple-run.ensures c.requires.1 c.if-run-room.true
+pub returns-then-run-tokens : goal.returns-then-run-tokens
+returns-then-run-tokens c =
+    let same : length c.run_simple-run.new.tokens ≡ length c.args.tokens.now = omega arith in
+    ends_run (token_room c.args.tokens.now) c.args.src.now c.run_simple-run.ensures c.requires.1 (rw same at c.if-run-tokens.true)
 
 pub scan_next-requires : goal.scan_next-requires
 scan_next-requires c =
     let run = c.run_simple-run.ensures in
     let within = run.within in
-    (run.fit, omega (arith, within, c.if-run-room.false), omega arith)
+    let same : length c.run_simple-run.new.tokens ≡ length c.args.tokens.now = omega arith in
+    (run.fit, rw same (omega (arith, within, rw same at c.if-run-tokens.false)))
 
 pub returns : goal.returns
 returns c =
     let run = c.run_simple-run.ensures in
     let within = run.within in
-    comes_behind c.args.room c.args.src.now (goes_run c.args.room c.args.src.now run (omega (arith, within, c.if-run-room.false))) c.scan_next.result _ _ _ _ c.scan_next.ensures
+    let same : length c.run_simple-run.new.tokens ≡ length c.args.tokens.now = omega arith in
+    let room = token_room c.args.tokens.now in
+    comes_behind room c.args.src.now (goes_run room c.args.src.now run (omega (arith, within, rw same at c.if-run-tokens.false))) c.scan_next.result _ _ _ _ (rw same at c.scan_next.ensures)

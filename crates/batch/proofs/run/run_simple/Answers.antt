@@ -2,6 +2,7 @@
 use mathlib.Core.Path.{◌≡◌, refl, ◌∙◌}
 use native.Mathlib.Omega.{arith}
 use borrow.Author.Rules.{rules}
+use Rattle.batch.specs.Many.{token_room}
 use Rattle.batch.proofs.Rounds.{leads_on, safe_ready, state_ready, leads_start}
 use Rattle.batch.proofs.run.run_simple.Goals as goal
 use Rattle.batch.proofs.run.run_simple.Goals.{else-loop-at-test, then-loop-at-test+in-None}
@@ -12,12 +13,12 @@ safe_end-safe-requires c = let a = c.args in safe_ready a.src.now a.list.now a.f
 pub loop-at-init : goal.loop-at-init
 loop-at-init c =
     let a = c.args in
-    rw c.start_at-at.ensures (refl, omega arith, leads_start a.src.now a.list.now a.room a.from a.table.now a.tokens.now c.requires.0 c.requires.1)
+    rw c.start_at-at.ensures (refl, omega arith, leads_start a.src.now a.list.now (token_room a.tokens.now) a.from a.table.now a.tokens.now c.requires.0 c.requires.1)
 
 pub loop-at-preserved : goal.loop-at-preserved
 loop-at-preserved c =
     let step = c.in-Some.ensures in
-    (search rules, step.0, leads_on c.args.room c.args.src.now c.loop-at.invariant.2 (step.2 c.args.room c.loop-at-test.true))
+    (search rules, step.0, leads_on (token_room c.args.tokens.now) c.args.src.now c.loop-at.invariant.2 (step.2 (token_room c.args.tokens.now) c.loop-at-test.true))
 
 pub state_at-requires : goal.state_at-requires
 state_at-requires c =

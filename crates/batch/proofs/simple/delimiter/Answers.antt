@@ -21,18 +21,19 @@ use Rattle.batch.proofs.simple.delimiter.Goals.{then-eq+else-ne, else-eq}
 
 pub returns : goal.returns
 returns c =
-    let a = c.args in
+    let a = c.args.start in
+    let kind = c.args.kind in
     let b = get_or a.src.now a.at 0 in
     let next = get_or a.src.now (a.at + 1) 0 in
-    let small : b < 256 = omega (arith, c.type_inv.src a.at) in
-    let is = c.requires.2 in
-    let high = c.requires.3 in
+    let small : b < 256 = a.bytes a.at in
+    let is = c.requires.0 in
+    let high = c.requires.1 in
     let letter : first_kind b ≡ PERIOD → is_letter next ≡ true =
     λ e. elim c.if-eq.branch [
-      | then-eq+else-ne w ↦ letter_first next (omega (arith, c.type_inv.src (a.at + 1))) (sym w.first.ensures ∙ same_number w.first.result Ident (not-false _ (sym w.ne.ensures ∙ w.if-ne.false)))
-      | else-eq w ↦ absurd (other_number a.kind Period (sym c.eq.ensures ∙ w.if-eq.false) (is ∙ e))
+      | then-eq+else-ne w ↦ letter_first next (a.bytes (a.at + 1)) (sym w.first.ensures ∙ same_number w.first.result Ident (not-false _ (sym w.ne.ensures ∙ w.if-ne.false)))
+      | else-eq w ↦ absurd (other_number kind Period (sym c.eq.ensures ∙ w.if-eq.false) (is ∙ e))
     ] in
-    gives_plain a.src.now a.at a.safe a.position a.tokens.now a.to a.kind (a.at + 1) 1 false (sets_mark (kind_number a.kind)) Empty 0
-    (λ m. delimiter_read a.src.now a.at m b small (rw is at high) a.kind is refl letter) (omega arith)
-    (rw is (first_known b small)) (ne_eqb (kind_number a.kind) STRING (λ e. omega (arith, high, e))) (omega (arith, c.requires.0)) (rw (c.sets_mark.ensures, kind_tag a.kind))
-    ((rw (kind_tag a.kind) at c.put_shown.ensures) ∙ rw (add-zero a.at))
+    gives_plain a.src.now a.at a.safe a.position kind (a.at + 1) 1 false (sets_mark (kind_number kind)) Empty 0
+    (λ m. delimiter_read a.src.now a.at m b small (rw is at high) kind is refl letter) (omega arith)
+    (rw is (first_known b small)) (ne_eqb (kind_number kind) STRING (λ e. omega (arith, high, e))) (omega (arith, a.early))
+    (rw (add-zero a.at, c.simple_token.ensures, c.sets_mark.ensures, kind_tag kind))
