@@ -33,7 +33,8 @@ use Rattle.lexer.proofs.Tokens.{identifier_said, keyword_said}
 use Rattle.batch.specs.declared.next.Next.{Next}
 use Rattle.scanner.specs.Steps.{token_by}
 use Rattle.batch.specs.Simple.{keyword_in, simple_token, word_token, Gave}
-use Rattle.batch.proofs.WordKinds.{kind_of, numbered, word_below}
+use Rattle.batch.specs.KindOf.{kind_of}
+use Rattle.batch.proofs.WordKinds.{numbered, word_below}
 
 module _ (src : List ℕ) (at safe position : ℕ) where
   -- a token of ASCII characters that is no string

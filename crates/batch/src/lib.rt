@@ -1,6 +1,7 @@
 // Many scans in one call.
 #![tactic(auto)]
 
+mod first;
 mod layout;
 mod literal;
 mod many;

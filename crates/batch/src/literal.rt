@@ -1,26 +1,20 @@
 // Decimal integers and strings of plain characters given as simple tokens.
-ghost use Rattle.std.specs.Prelude.{◌≡◌, false, true, ℕ, ◌≤◌, ◌<◌, length, get_or};
+ghost use Rattle.std.specs.Prelude.{◌≡◌, true, ◌<◌, get_or, IfSome};
 ghost use Rattle.digits.specs.Digit.{is_decimal};
-ghost use Rattle.batch.specs.Simple.{quote, string_token, GivesSimple};
+ghost use Rattle.batch.specs.Simple.{quote, DigitsBefore, string_token, GivesSimple};
 
+use crate::first::First;
 use crate::next::{Next, simple_token};
 use crate::start::Start;
 use crate::tables::Tables;
 use kinds::Kind;
 use parts::{Part, Token};
 
-// Where the digits from a place on end, at the latest at the safe place.
-fn digits_end(src: &[u8], tables: &Tables, at: usize, safe: usize) -> usize
-    requires { (at ≤ safe) × (safe ≤ length src.now) }
-    ensures { (at ≤ result) × (result ≤ safe) × ((p : ℕ) → at ≤ p → p < result → is_decimal (get_or src.now p 0) ≡ true)
-        × (result < safe → is_decimal (get_or src.now result 0) ≡ false) }
+// How many decimal digits a text starts with, if something is after them.
+fn digits_before(text: &[u8]) -> Option<usize>
+    ensures { IfSome result (DigitsBefore text.now) }
 {
-    for end in at..safe {
-        if tables.first(src[end]) != Kind::Int {
-            return end;
-        }
-    }
-    safe
+    text.iter().position(|b| !digits::is_decimal(*b))
 }
 
 // Gives the decimal integer at a place. It has digits only, no leading 0, and nothing after it that
@@ -29,19 +23,14 @@ pub(crate) fn decimal(start: Start<'_>, tables: &Tables) -> Option<Next>
     requires { is_decimal (get_or start.src.now start.at 0) ≡ true }
     ensures { GivesSimple start.entry result }
 {
-    let end = digits_end(start.src, tables, start.at, start.safe);
-    if start.safe <= end {
-        return None;
-    }
-    let next = tables.first(start.src[end]);
-    if next == Kind::Ident {
-        return None;
-    }
-    if next == Kind::Period {
-        return None;
+    let count = digits_before(&start.src[start.at..start.safe])?;
+    let end = start.at + count;
+    match tables.first(start.src[end]) {
+        First::Letter | First::Point => return None,
+        _ => {}
     }
     if start.src[start.at] == b'0' {
-        if end != start.at + 1 {
+        if count != 1 {
             return None;
         }
     }

@@ -1,12 +1,12 @@
 // Simple tokens: words, delimiters, operators but those that start with a slash, decimal integers,
 // strings of plain characters, and the semicolon that is inserted before a line feed. The first
 // byte tells what to try. Their text is the source's own bytes.
-ghost use Rattle.std.specs.Prelude.{◌≡◌, ◌≤◌, get_or};
-ghost use Rattle.kinds.specs.Kinds.{ADD, LPAREN};
-ghost use Rattle.kinds.specs.Number.{kind_number};
+ghost use Rattle.std.specs.Prelude.{◌≡◌, get_or};
+ghost use Rattle.batch.specs.declared.first.First.TheVariants.{Delimiter, Operator};
 ghost use Rattle.batch.specs.Near.{line_feed};
-ghost use Rattle.batch.specs.Simple.{first_kind, Gives, GivesSimple};
+ghost use Rattle.batch.specs.Simple.{point, first_of, Gives, GivesSimple};
 
+use crate::first::First;
 use crate::literal::{decimal, string};
 use crate::next::{Next, simple_token};
 use crate::start::Start;
@@ -16,7 +16,7 @@ use kinds::Kind;
 
 // Gives the operator at a place.
 fn operator(start: Start<'_>) -> Next
-    requires { first_kind (get_or start.src.now start.at 0) ≡ ADD }
+    requires { first_of (get_or start.src.now start.at 0) ≡ Operator }
     ensures { Gives start.entry result }
 {
     let o = operators::scan_operator(start.src, start.at);
@@ -28,20 +28,30 @@ fn operator(start: Start<'_>) -> Next
     }
 }
 
-// Gives the delimiter of a kind at a place; a point is one before a letter.
-fn delimiter(start: Start<'_>, tables: &Tables, kind: Kind) -> Option<Next>
-    requires { (kind_number kind ≡ first_kind (get_or start.src.now start.at 0)) × (LPAREN ≤ kind_number kind) }
-    ensures { GivesSimple start.entry result }
+// Gives the delimiter of a kind at a place.
+fn delimiter(start: Start<'_>, kind: Kind) -> Next
+    requires { first_of (get_or start.src.now start.at 0) ≡ Delimiter kind }
+    ensures { Gives start.entry result }
 {
-    if kind == Kind::Period {
-        if tables.first(start.src[start.at + 1]) != Kind::Ident {
-            return None;
-        }
-    }
-    Some(Next {
+    Next {
         token: simple_token(start, kind as u8, false, start.at),
         place: start.at + 1,
         mark: kinds::sets_mark(kind as u8),
+    }
+}
+
+// Gives the point at a place, where a letter is after it.
+fn point(start: Start<'_>, tables: &Tables) -> Option<Next>
+    requires { get_or start.src.now start.at 0 ≡ point }
+    ensures { GivesSimple start.entry result }
+{
+    let First::Letter = tables.first(start.src[start.at + 1]) else {
+        return None;
+    };
+    Some(Next {
+        token: simple_token(start, Kind::Period as u8, false, start.at),
+        place: start.at + 1,
+        mark: false,
     })
 }
 
@@ -57,30 +67,18 @@ fn semicolon(start: Start<'_>) -> Next
     }
 }
 
-// Gives the simple token at a place, if there is one. The tests stand in the order of how often
-// they hold, which a `match` does not keep.
+// Gives the simple token at a place, if there is one.
 pub(crate) fn give_simple(start: Start<'_>, tables: &Tables) -> Option<Next>
     ensures { GivesSimple start.entry result }
 {
-    let b = start.src[start.at];
-    let first = tables.first(b);
-    if first == Kind::Ident {
-        return word(start, tables);
+    match tables.first(start.src[start.at]) {
+        First::Letter => word(start, tables),
+        First::Delimiter(kind) => Some(delimiter(start, kind)),
+        First::Point => point(start, tables),
+        First::LineFeed => Some(semicolon(start)),
+        First::Operator => Some(operator(start)),
+        First::Digit => decimal(start, tables),
+        First::Quote => string(start),
+        First::Other => None,
     }
-    if first as u8 >= Kind::Lparen as u8 {
-        return delimiter(start, tables, first);
-    }
-    if b == b'\n' {
-        return Some(semicolon(start));
-    }
-    if first == Kind::Add {
-        return Some(operator(start));
-    }
-    if first == Kind::Int {
-        return decimal(start, tables);
-    }
-    if first == Kind::String {
-        return string(start);
-    }
-    None
 }

@@ -1,21 +1,25 @@
 -- `simple::give_simple` meets its contract: by what the first byte tells.
-use mathlib.Core.Path.{sym, ◌∙◌}
-use Rattle.kinds.specs.declared.kind.Kind.TheVariants.{Ident, Int, String}
-use Rattle.kinds.proofs.Tags.{same_number}
-use Rattle.batch.proofs.SimpleTokens.{letter_first, digit_first, quote_first}
+use mathlib.Core.Path.{sym}
+use Rattle.batch.proofs.SimpleTokens.{letter_first, digit_first, quote_first, point_first, feed_first}
 use Rattle.batch.proofs.simple.give_simple.Goals as goal
 
 pub word-requires : goal.word-requires
-word-requires c =
-    let a = c.args.start in
-    letter_first _ (a.bytes a.at) (sym c.first-first.ensures ∙ same_number c.first-first.result Ident (sym c.eq.ensures ∙ c.if-eq.true))
+word-requires c = let a = c.args.start in letter_first _ (a.bytes a.at) (sym c.in-Letter.ensures)
+
+pub delimiter-requires : goal.delimiter-requires
+delimiter-requires c = sym c.in-Delimiter.ensures
+
+pub point-requires : goal.point-requires
+point-requires c = let a = c.args.start in point_first _ (a.bytes a.at) (sym c.in-Point.ensures)
+
+pub semicolon-requires : goal.semicolon-requires
+semicolon-requires c = let a = c.args.start in feed_first _ (a.bytes a.at) (sym c.in-LineFeed.ensures)
+
+pub operator-requires : goal.operator-requires
+operator-requires c = sym c.in-Operator.ensures
 
 pub decimal-requires : goal.decimal-requires
-decimal-requires c =
-    let a = c.args.start in
-    digit_first _ (a.bytes a.at) (sym c.first-first.ensures ∙ same_number c.first-first.result Int (sym c.eq-3.ensures ∙ c.if-eq-3.true))
+decimal-requires c = let a = c.args.start in digit_first _ (a.bytes a.at) (sym c.in-Digit.ensures)
 
 pub string-requires : goal.string-requires
-string-requires c =
-    let a = c.args.start in
-    quote_first _ (a.bytes a.at) (sym c.first-first.ensures ∙ same_number c.first-first.result String (sym c.eq-4.ensures ∙ c.if-eq-4.true))
+string-requires c = let a = c.args.start in quote_first _ (a.bytes a.at) (sym c.in-Quote.ensures)
