@@ -21,7 +21,7 @@ fn gave(last: Batch, table: &[usize]) -> Batch
     ensures { result ≡ last }
 {
     Batch {
-        state: state_at(last.state, start_at(last), table),
+        state: state_at(last.state, start_at(last.state), table),
         ..last
     }
 }

@@ -2,8 +2,9 @@
 ghost use Rattle.std.specs.Prelude.{◌≡◌, true, ◌+◌, ◌-◌, ◌≤◌, ◌<◌, ◌^◌, length};
 ghost use Rattle.state.specs.Fits.{fits};
 ghost use Rattle.batch.specs.Many.{token_room};
-ghost use Rattle.batch.specs.Run.{reached, start_at, HasRoom, IsSafe, Leads};
+ghost use Rattle.batch.specs.Run.{reached, start_at, IsSafe, Leads};
 
+use crate::layout::put_token_at;
 use crate::step::{Reached, next_simple};
 use crate::tables::Tables;
 use parts::Token;
@@ -18,14 +19,13 @@ pub struct Batch {
 }
 
 // Where a run starts.
-pub(crate) fn start_at(from: Batch) -> Reached
-    ensures { result ≡ start_at from }
+pub(crate) fn start_at(first: State) -> Reached
+    ensures { result ≡ start_at first }
 {
     Reached {
-        place: from.state.place,
-        mark: from.state.mark,
-        lines: from.state.lines,
-        count: from.count,
+        place: first.place,
+        mark: first.mark,
+        lines: first.lines,
     }
 }
 
@@ -63,21 +63,26 @@ pub(crate) fn run_simple(
     list: &[usize],
     tokens: &mut [usize],
 ) -> Batch
-    requires { (fits from.state src.now table.old list.now ≡ true) × HasRoom from.count tokens.old }
+    requires { fits from.state src.now table.old list.now ≡ true }
     ensures { Leads (token_room tokens.old) src.now list.now from.state table.old tokens.old from.count result.state table.new tokens.new result.count }
 {
     let first = from.state;
     let safe = safe_end(src, first);
     let room = tokens.len() / Token::NUMBERS;
-    let mut at = start_at(from);
-    while at.count < room {
-        match next_simple(src, tables, first, safe, at, table, list, tokens) {
-            Some(next) => at = next,
+    let mut at = start_at(first);
+    let mut count = from.count;
+    while count < room {
+        match next_simple(src, tables, first, safe, at, table, list) {
+            Some((token, next)) => {
+                put_token_at(token, tokens, count);
+                at = next;
+                count += 1;
+            }
             None => break,
         }
     }
     Batch {
         state: state_at(first, at, table),
-        count: at.count,
+        count,
     }
 }

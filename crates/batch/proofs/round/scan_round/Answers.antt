@@ -14,14 +14,14 @@ returns-then-run-tokens c =
 pub scan_next-requires : goal.scan_next-requires
 scan_next-requires c =
     let run = c.run_simple-run.ensures in
-    let within = run.within in
+    let within = run.within (omega arith) in
     let same : length c.run_simple-run.new.tokens ≡ length c.args.tokens.now = omega arith in
     (run.fit, rw same (omega (arith, within, rw same at c.if-run-tokens.false)))
 
 pub returns : goal.returns
 returns c =
     let run = c.run_simple-run.ensures in
-    let within = run.within in
+    let within = run.within (omega arith) in
     let same : length c.run_simple-run.new.tokens ≡ length c.args.tokens.now = omega arith in
     let room = token_room c.args.tokens.now in
     comes_behind room c.args.src.now (goes_run room c.args.src.now run (omega (arith, within, rw same at c.if-run-tokens.false))) c.scan_next.result _ _ _ _ (rw same at c.scan_next.ensures)

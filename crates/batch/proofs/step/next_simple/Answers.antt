@@ -19,8 +19,8 @@ overflow_add-start c = omega (arith, small (goal.at.overflow_add-start c).In_ok-
 pub overflow_add-start-2 : goal.overflow_add-start-2
 overflow_add-start-2 c = omega (arith, small (goal.at.overflow_add-start-2 c).In_ok-blanks)
 
-pub record_line-lines-requires : goal.record_line-lines-requires
-record_line-lines-requires c =
+pub record_line-requires : goal.record_line-requires
+record_line-requires c =
     let a = c.args in
     let p = c.requires in
     let e = c.in_ok-blanks.ensures in
@@ -31,6 +31,5 @@ returns c =
     let a = c.args in
     let p = c.requires in
     let e = c.in_ok-blanks.ensures in
-    let w = c.record_line-lines.ensures in
-    steps a.src.now a.first a.safe p.2 a.table.now a.list.now a.at p.1 p.0 c.in_ok-blanks.blanks e.0 e.1.0 c.in_ok-next.ensures w.0
-    _ _ c.put_token_at.ensures c.record_line-lines.result w.1
+    let w = c.record_line.ensures in
+    steps a.src.now a.first a.safe p.2 a.table.now a.list.now a.at p.1 p.0 c.in_ok-blanks.blanks e.0 e.1.0 c.in_ok-next.ensures w.0 c.record_line.result w.1
