@@ -4,7 +4,7 @@ ghost use Rattle.state.specs.Fits.{fits};
 ghost use Rattle.batch.specs.Many.{is_last, token_room};
 ghost use Rattle.batch.specs.Run.{HasRoom, Comes};
 
-use crate::layout::put_token_at;
+use crate::layout::{put_token_at, token_room};
 use crate::run::{Batch, run_simple};
 use crate::tables::Tables;
 use kinds::Kind;
@@ -57,7 +57,7 @@ fn scan_next(
         state: scanned.state,
         count: from.count + 1,
     };
-    if goes_on(scanned.token, given.count, tokens.len() / Token::NUMBERS) {
+    if goes_on(scanned.token, given.count, token_room(tokens)) {
         return ControlFlow::Continue(given);
     }
     ControlFlow::Break(Ok(given))
@@ -77,7 +77,7 @@ pub(crate) fn scan_round(
     ensures { Comes (token_room tokens.old) src.now from table.old list.old area.old tokens.old result table.new list.new area.new tokens.new }
 {
     let run = run_simple(src, tables, from, table, list, tokens);
-    if run.count == tokens.len() / Token::NUMBERS {
+    if run.count == token_room(tokens) {
         return ControlFlow::Break(Ok(run));
     }
     scan_next(src, run, table, list, area, tokens)

@@ -4,10 +4,9 @@ ghost use Rattle.state.specs.Fits.{fits};
 ghost use Rattle.batch.specs.Many.{token_room};
 ghost use Rattle.batch.specs.Run.{reached, start_at, IsSafe, Leads};
 
-use crate::layout::put_token_at;
+use crate::layout::{put_token_at, token_room};
 use crate::step::{Reached, next_simple};
 use crate::tables::Tables;
-use parts::Token;
 use position::Line;
 use state::State;
 
@@ -68,7 +67,7 @@ pub(crate) fn run_simple(
 {
     let first = from.state;
     let safe = safe_end(src, first);
-    let room = tokens.len() / Token::NUMBERS;
+    let room = token_room(tokens);
     let mut at = start_at(first);
     let mut count = from.count;
     while count < room {

@@ -26,7 +26,7 @@ returns-then-goes_on c =
     let p = c.requires in
     let same : length c.put_token_at.new.tokens ≡ length c.args.tokens.now = omega arith in (
       goes_given (token_room c.args.tokens.now) c.args.src.now p.0 p.1 {a = record { table = c.scan.new.table; list = c.scan.new.list; area = c.scan.new.area; answer = gave_answer c.in-Ok.scanned }}
-          c.in-Ok.ensures refl c.put_token_at.ensures (rw same at (sym c.goes_on.ensures ∙ c.if-goes_on.true)),
+          c.in-Ok.ensures refl c.put_token_at.ensures (rw (c.token_room.ensures, same) at (sym c.goes_on.ensures ∙ c.if-goes_on.true)),
       omega arith,
     )
 
@@ -35,4 +35,4 @@ returns c =
     let p = c.requires in
     let same : length c.put_token_at.new.tokens ≡ length c.args.tokens.now = omega arith in
     ends_given (token_room c.args.tokens.now) c.args.src.now p.0 p.1 {a = record { table = c.scan.new.table; list = c.scan.new.list; area = c.scan.new.area; answer = gave_answer c.in-Ok.scanned }}
-    c.in-Ok.ensures refl c.put_token_at.ensures (rw same at (sym c.goes_on.ensures ∙ c.if-goes_on.false))
+    c.in-Ok.ensures refl c.put_token_at.ensures (rw (c.token_room.ensures, same) at (sym c.goes_on.ensures ∙ c.if-goes_on.false))

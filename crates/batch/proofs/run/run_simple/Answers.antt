@@ -20,7 +20,7 @@ loop-count-preserved c =
     let l = c.loop-count in
     let step = c.in-Some.ensures in
     let room = token_room c.args.tokens.now in
-    (search rules, step.0, rw c.put_token_at.ensures (leads_on room c.args.src.now l.invariant.2 (step.1 room l.count l.tokens c.loop-count-test.true)))
+    (search rules, step.0, rw c.put_token_at.ensures (leads_on room c.args.src.now l.invariant.2 (step.1 room l.count l.tokens (rw c.token_room-room.ensures at c.loop-count-test.true))))
 
 pub state_at-requires : goal.state_at-requires
 state_at-requires c =
