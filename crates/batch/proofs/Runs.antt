@@ -105,6 +105,9 @@ module _ (src : List ℕ) (first : State) (safe : ℕ) (is-safe : IsSafe src fir
   pub position_small : first.base + first.offset + (b.end - first.place) < 2 ^ 32
   position_small = omega (arith, size_small here src table list holds, sized, low)
 
+  pub safe_inside : safe < length src
+  safe_inside = let last = (is-safe (safe - 1) (omega (arith, early))).0 in omega (arith, early, last)
+
   lined : (line : Option ℕ) → at.place ≤ line_from at.place line → line_from at.place line ≤ b.end → IfSome line (λ l. at.lines < length table)
       → IfSome line (λ l. (at.place ≤ l) × (first.offset + (l - first.place) < 2 ^ 64) × (at.lines < length table))
   lined None a b h = tt

@@ -53,7 +53,7 @@ fn safe_end(src: &[u8], first: State) -> usize
 }
 
 // Gives simple tokens one after the other while there is room. What changes from token to token is
-// kept in few numbers.
+// kept in few numbers. (The loop is no `for`, since its count where it stops is an answer.)
 pub(crate) fn run_simple(
     src: &[u8],
     tables: &Tables,

@@ -83,10 +83,11 @@ pub(crate) fn next_simple(
         position: first.base + first.offset + (blanks.end - first.place),
     };
     let next = give_simple(start, tables)?;
+    let lines = record_line(first, at, blanks, table);
     let reached = Reached {
         place: next.place,
         mark: next.mark,
-        lines: record_line(first, at, blanks, table),
+        lines,
     };
     Some((next.token, reached))
 }

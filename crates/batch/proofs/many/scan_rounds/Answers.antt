@@ -1,26 +1,12 @@
 -- `many::scan_rounds` meets its contract: rounds go on while each gives some token.
 use Prim.Native.Nat.{◌/◌}
-use mathlib.Core.Path.{refl, ap, subst}
-use native.Mathlib.Omega.{arith}
+use mathlib.Core.Path.{ap, subst}
 use borrow.Author.Rules.{rules}
 use Rattle.std.specs.declared.ops.ControlFlow.TheVariants.{Break}
 use Rattle.parts.specs.Layout.{token_width}
 use Rattle.batch.specs.Run.{Comes}
-use Rattle.batch.proofs.Rounds.{goes_start, goes_behind, end_lined, end_all}
+use Rattle.batch.proofs.Rounds.{goes_behind, end_lined, end_all}
 use Rattle.batch.proofs.many.scan_rounds.Goals as goal
-
-pub loop-next-init : goal.loop-next-init
-loop-next-init c = let enough = c.requires.1 in (refl, goes_start _ c.args.src.now c.requires.0 (omega arith))
-
-pub scan_round-requires : goal.scan_round-requires
-scan_round-requires c =
-    let i = c.loop-next.invariant in
-    (i.1.fit, rw i.0 i.1.below)
-
-pub loop-next-smaller : goal.loop-next-smaller
-loop-next-smaller c =
-    let below = c.loop-next.invariant.1.below in
-    omega (arith, below, c.in-Continue.ensures.1)
 
 pub loop-next-preserved : goal.loop-next-preserved
 loop-next-preserved c =

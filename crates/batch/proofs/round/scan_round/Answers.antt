@@ -11,13 +11,6 @@ returns-then-run-token_room c =
     let same : length c.run_simple-run.new.tokens ≡ length c.args.tokens.now = omega arith in
     ends_run (token_room c.args.tokens.now) c.args.src.now c.run_simple-run.ensures c.requires.1 (rw (c.token_room.ensures, same) at c.if-run-token_room.true)
 
-pub scan_next-requires : goal.scan_next-requires
-scan_next-requires c =
-    let run = c.run_simple-run.ensures in
-    let within = run.within (omega arith) in
-    let same : length c.run_simple-run.new.tokens ≡ length c.args.tokens.now = omega arith in
-    (run.fit, rw same (omega (arith, within, rw (c.token_room.ensures, same) at c.if-run-token_room.false)))
-
 pub returns : goal.returns
 returns c =
     let run = c.run_simple-run.ensures in

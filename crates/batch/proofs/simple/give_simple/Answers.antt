@@ -6,17 +6,11 @@ use Rattle.batch.proofs.simple.give_simple.Goals as goal
 pub word-requires : goal.word-requires
 word-requires c = let a = c.args.start in letter_first _ (a.bytes a.at) (sym c.in-Letter.ensures)
 
-pub delimiter-requires : goal.delimiter-requires
-delimiter-requires c = sym c.in-Delimiter.ensures
-
 pub point-requires : goal.point-requires
 point-requires c = let a = c.args.start in point_first _ (a.bytes a.at) (sym c.in-Point.ensures)
 
 pub semicolon-requires : goal.semicolon-requires
 semicolon-requires c = let a = c.args.start in feed_first _ (a.bytes a.at) (sym c.in-LineFeed.ensures)
-
-pub operator-requires : goal.operator-requires
-operator-requires c = sym c.in-Operator.ensures
 
 pub decimal-requires : goal.decimal-requires
 decimal-requires c = let a = c.args.start in digit_first _ (a.bytes a.at) (sym c.in-Digit.ensures)
