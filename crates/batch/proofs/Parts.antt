@@ -1,10 +1,11 @@
 -- What is written to the whole of a part of a list is written to the list there.
-use Prim.Native.Nat.{ℕ, ◌+◌, ◌≤◌}
+use Prim.Native.Nat.{ℕ, ◌+◌, ◌*◌, ◌/◌, ◌≤◌, ◌<◌}
 use mathlib.Core.Path.{◌≡◌, sym, ap, ◌∙◌}
 use mathlib.Core.List.{List, ◌++◌, append_assoc, append-nil}
 use native.Mathlib.Nat.{zero-add}
 use native.Mathlib.Omega.{arith}
 use lib.ListN.{length, take, drop, length-drop, drop_of_length-le}
+use Rattle.parts.specs.Layout.{token_width}
 use lib.Seq.{sets, sets-eq, length-take-le, drop-drop}
 
 module _ {A : Type 0} (l : List A) (to : ℕ) (vs : List A) (room : to + length vs ≤ length l) where
@@ -26,3 +27,7 @@ module _ {A : Type 0} (l : List A) (to : ℕ) (vs : List A) (room : to + length 
         ∙ ap (λ k. take to l ++ (vs ++ k)) (drop-drop m to l ∙ ap (λ k. drop (to + k) l) as_long)
         ∙ sym (append_assoc (take to l) vs (drop (to + length vs) l))
         ∙ sym (sets-eq vs l to room)
+
+-- where there is room for a token after so many, its numbers fit
+pub token_fits : (count len : ℕ) → count < len / token_width → count * token_width + token_width ≤ len
+token_fits count len h = omega arith

@@ -32,9 +32,8 @@ use Rattle.batch.proofs.Runs.{scan_fits, refused_fits, offset_within, size_small
 
 module _ (room : ℕ) (src : List ℕ) where
   -- ---- runs
-  pub leads_here : (list : List ℕ) (s : State) (table tokens : List ℕ) (n : ℕ) → fits s src table list ≡ true → n ≤ room
-      → Leads room src list s table tokens n s table tokens n
-  leads_here list s table tokens n f h = record { fit = f; over = omega arith; within = h; left = λ area. refl; same = λ z area. refl }
+  pub leads_here : (list : List ℕ) (s : State) (table tokens : List ℕ) (n : ℕ) → fits s src table list ≡ true → Leads room src list s table tokens n s table tokens n
+  leads_here list s table tokens n f = record { fit = f; over = omega arith; within = λ h. h; left = λ area. refl; same = λ z area. refl }
 
   pub leads_on : {list : List ℕ} {s s' s'' : State} {table tokens table' tokens' table'' tokens'' : List ℕ} {n n' n'' : ℕ}
       → Leads room src list s table tokens n s' table' tokens' n' → Leads room src list s' table' tokens' n' s'' table'' tokens'' n''
@@ -45,7 +44,7 @@ module _ (room : ℕ) (src : List ℕ) where
       record {
         fit = b.fit;
         over = omega (arith, o, p);
-        within = b.within;
+        within = λ h. b.within (a.within h);
         left = λ area. a.left area ∙ b.left area;
         same = λ z area. a.same (omega (arith, o, p, z)) area ∙ b.same (omega (arith, o, p, z)) area;
       }
@@ -197,11 +196,11 @@ module _ (src list : List ℕ) where
       let l = line_ready s table f in
       (h, omega (arith, offset_within s src table list f, size_small s src table list f), l.1, l.2)
 
-  pub leads_start : (room : ℕ) (from : Batch) (table tokens : List ℕ) → fits from.state src table list ≡ true → from.count < room
-      → Leads room src list from.state table tokens from.count (reached from.state (start_at from) table) table tokens from.count
-  leads_start room from table tokens f h =
+  pub leads_start : (room : ℕ) (from : Batch) (table tokens : List ℕ) → fits from.state src table list ≡ true
+      → Leads room src list from.state table tokens from.count (reached from.state (start_at from.state) table) table tokens from.count
+  leads_start room from table tokens f =
       subst (λ t. Leads room src list from.state table tokens from.count t table tokens from.count)
-      (sym (start_reached from table (line_ready from.state table f).0)) (leads_here room src list from.state table tokens from.count f (omega (arith, h)))
+      (sym (start_reached from.state table (line_ready from.state table f).0)) (leads_here room src list from.state table tokens from.count f)
 
 -- ---- the end of the rounds
 pub end_lined : (room : ℕ) (src : List ℕ) (from : Batch) (table list area tokens : List ℕ) (end : Result Batch Refusal) (table' list' area' tokens' : List ℕ)

@@ -26,7 +26,6 @@ use Rattle.batch.specs.Many.{is_last, many_of, left_after}
 use Rattle.batch.specs.declared.near.Near.{Near}
 use Rattle.batch.specs.declared.next.Next.{Next}
 use Rattle.batch.specs.declared.step.Reached.{Reached}
-use Rattle.batch.specs.declared.run.Batch.{Batch}
 use Rattle.batch.specs.Near.{feeds_of, line_from, near_as}
 use Rattle.batch.specs.Simple.{Gave}
 use Rattle.scanner.specs.Steps.{Reads}
@@ -74,26 +73,25 @@ pub size_small : (s : State) (src table list : List ℕ) → fits s src table li
 size_small s src table list e = omega (arith, (fit (file_of s) table (held s src table list e).fitted).top)
 
 -- where a run starts
-pub start_reached : (b : Batch) (table : List ℕ) → b.state.line ≡ line_in table b.state.lines → reached b.state (start_at b) table ≡ b.state
-start_reached b table l =
-    let s = b.state in
+pub start_reached : (s : State) (table : List ℕ) → s.line ≡ line_in table s.lines → reached s (start_at s) table ≡ s
+start_reached s table l =
     let e : s.offset + (s.place - s.place) ≡ s.offset = omega arith in
     λ i. advance s s.place (e i) s.mark s.lines s.errors (sym l i)
 
 -- ---- a step of a run, after blanks that were found
 module _ (src : List ℕ) (first : State) (safe : ℕ) (is-safe : IsSafe src first safe) (table list : List ℕ) (at : Reached)
     (over : first.place ≤ at.place) (holds : fits (reached first at table) src table list ≡ true)
-    (n : Near) (near : near_as at.place n ≡ skipped_at at.place (skip at.mark (chars (drop at.place src)))) (early : n.end < safe) where
+    (b : Near) (near : near_as at.place b ≡ skipped_at at.place (skip at.mark (chars (drop at.place src)))) (early : b.end < safe) where
   abbrev here : State
   here = reached first at table
 
   low : first.offset ≤ first.size
   low = omega (arith, offset_within here src table list holds)
 
-  start_past : at.place ≤ n.end
+  start_past : at.place ≤ b.end
   start_past = let e = ap (λ (k : Skipped). k.end) near in omega (arith, e)
 
-  line_between : (at.place ≤ line_from at.place n.line) × (line_from at.place n.line ≤ n.end)
+  line_between : (at.place ≤ line_from at.place b.line) × (line_from at.place b.line ≤ b.end)
   line_between =
       let e = ap (λ (k : Skipped). k.end) near in
       let l = ap (λ (k : Skipped). k.line) near in
@@ -101,34 +99,34 @@ module _ (src : List ℕ) (first : State) (safe : ℕ) (is-safe : IsSafe src fir
       (omega (arith, l), omega (arith, e, l, w))
 
   -- what is read lies before the size
-  sized : n.end + 16 < first.place + (first.size - first.offset)
+  sized : b.end + 16 < first.place + (first.size - first.offset)
   sized = (is-safe _ early).1
 
-  pub position_small : first.base + first.offset + (n.end - first.place) < 2 ^ 32
+  pub position_small : first.base + first.offset + (b.end - first.place) < 2 ^ 32
   position_small = omega (arith, size_small here src table list holds, sized, low)
 
   pub safe_inside : safe < length src
   safe_inside = let last = (is-safe (safe - 1) (omega (arith, early))).0 in omega (arith, early, last)
 
-  lined : (line : Option ℕ) → at.place ≤ line_from at.place line → line_from at.place line ≤ n.end → IfSome line (λ l. at.lines < length table)
+  lined : (line : Option ℕ) → at.place ≤ line_from at.place line → line_from at.place line ≤ b.end → IfSome line (λ l. at.lines < length table)
       → IfSome line (λ l. (at.place ≤ l) × (first.offset + (l - first.place) < 2 ^ 64) × (at.lines < length table))
   lined None a b h = tt
   lined (Some l) a b h = (a, omega (arith, b, position_small), h)
 
-  pub is_lined : IfSome n.line (λ l. at.lines < length table) → IsLined first at n table
-  is_lined h = (over, lined n.line line_between.0 line_between.1 h)
+  pub is_lined : IfSome b.line (λ l. at.lines < length table) → IsLined first at b table
+  is_lined h = (over, lined b.line line_between.0 line_between.1 h)
 
   -- a simple token after them
-  module _ {tokens tokens' : List ℕ} {to : ℕ} {r : Next} (g : Gave src n.end safe (first.base + first.offset + (n.end - first.place)) tokens to r tokens')
-      {table' : List ℕ} (w : Recorded here (near_as at.place n) table table') where
+  module _ {r : Next} (g : Gave src b.end safe (first.base + first.offset + (b.end - first.place)) r)
+      {table' : List ℕ} (w : Recorded here (near_as at.place b) table table') where
     abbrev there : State
-    there = state_at first r.place r.mark (at.lines + feeds_of n.line) table'
+    there = state_at first r.place r.mark (at.lines + feeds_of b.line) table'
 
-    reads : Reads src here (near_as at.place n) g.x
+    reads : Reads src here (near_as at.place b) g.x
     reads = record { skipped = near; token = g.reads at.mark }
 
-    end_past : n.end ≤ g.x.end
-    end_past = end_over src here table list (near_as at.place n) g.x holds reads g.plain g.ascii g.feeds
+    end_past : b.end ≤ g.x.end
+    end_past = end_over src here table list (near_as at.place b) g.x holds reads g.plain g.ascii g.feeds
 
     step_over : first.place ≤ r.place
     step_over = omega (arith, g.place, over, start_past, end_past)
@@ -139,16 +137,16 @@ module _ (src : List ℕ) (first : State) (safe : ℕ) (is-safe : IsSafe src fir
         omega (arith, last, g.near, over, low, early, start_past, end_past)
 
     abbrev stepped : State
-    stepped = next src here table list (near_as at.place n) g.x holds reads g.plain g.ascii g.feeds before_size w
+    stepped = next src here table list (near_as at.place b) g.x holds reads g.plain g.ascii g.feeds before_size w
 
     abbrev given : Token
-    given = token src here table list (near_as at.place n) g.x holds reads g.plain g.ascii g.feeds before_size w
+    given = token src here table list (near_as at.place b) g.x holds reads g.plain g.ascii g.feeds before_size w
 
     scanned : (area : List ℕ) → scan_of src here table list area ≡ gave stepped given table' list area
-    scanned = scans src here table list (near_as at.place n) g.x holds reads g.plain g.ascii g.feeds before_size w
+    scanned = scans src here table list (near_as at.place b) g.x holds reads g.plain g.ascii g.feeds before_size w
 
     on : is_last given ≡ false
-    on = goes_on src here table list (near_as at.place n) g.x holds reads g.plain g.ascii g.feeds before_size w g.known
+    on = goes_on src here table list (near_as at.place b) g.x holds reads g.plain g.ascii g.feeds before_size w g.known
 
     there_is : stepped ≡ there
     there_is =
@@ -158,19 +156,25 @@ module _ (src : List ℕ) (first : State) (safe : ℕ) (is-safe : IsSafe src fir
     step_fits : fits there src table' list ≡ true
     step_fits = subst (λ t. fits t src table' list ≡ true) there_is (scanned_fits src here table list scanned holds)
 
-    step_more : (room count : ℕ) → to ≡ count * token_width → count < room → (area : List ℕ)
-        → left_after count tokens (many_of (room - count) src here table list area) ≡ left_after (count + 1) tokens' (many_of (room - (count + 1)) src there table' list area)
-    step_more room count here-is h area =
-        let e : first.base + first.offset + (n.end - first.place) ≡ first.base + (first.offset + (at.place - first.place)) + (n.end - at.place) = omega (arith, over, start_past) in
-        let written : tokens' ≡ sets tokens (count * token_width) (token_numbers given) = g.written ∙ rw (here-is, e) in
-        scanned_more src here table list scanned on room count tokens area h
-        ∙ ap (λ l. left_after (count + 1) l (many_of (room - (count + 1)) src stepped table' list area)) (sym written)
-        ∙ ap (λ t. left_after (count + 1) tokens' (many_of (room - (count + 1)) src t table' list area)) there_is
+    given_is : r.token ≡ given
+    given_is =
+        let e : first.base + first.offset + (b.end - first.place) ≡ first.base + (first.offset + (at.place - first.place)) + (b.end - at.place) = omega (arith, over, start_past) in
+        g.token ∙ rw e
 
-    pub steps : (lines' : ℕ) → to ≡ at.count * token_width → lines' ≡ at.lines + feeds_of n.line
-        → StepsTo src list first at table tokens (Some (record { place = r.place; mark = r.mark; lines = lines'; count = at.count + 1 })) table' tokens'
-    steps lines' here-is e = (
+    -- and written after n others
+    module _ (room n : ℕ) (tokens : List ℕ) (h : n < room) where
+      abbrev more : List ℕ
+      more = sets tokens (n * token_width) (token_numbers r.token)
+
+      step_more : (area : List ℕ) → left_after n tokens (many_of (room - n) src here table list area) ≡ left_after (n + 1) more (many_of (room - (n + 1)) src there table' list area)
+      step_more area =
+          scanned_more src here table list scanned on room n tokens area h
+          ∙ ap (λ t. left_after (n + 1) (sets tokens (n * token_width) (token_numbers t)) (many_of (room - (n + 1)) src stepped table' list area)) (sym given_is)
+          ∙ ap (λ t. left_after (n + 1) more (many_of (room - (n + 1)) src t table' list area)) there_is
+
+    pub steps : (lines' : ℕ) → lines' ≡ at.lines + feeds_of b.line
+        → StepsTo src list first at table (Some (r.token, record { place = r.place; mark = r.mark; lines = lines' })) table'
+    steps lines' e = (
       step_over,
-      refl,
-      λ room h. rw e (record { fit = step_fits; over = omega arith; within = omega arith; left = step_more room at.count here-is h; same = λ z. absurd (omega (arith, z)) }),
+      λ room n tokens h. rw e (record { fit = step_fits; over = omega arith; within = λ k. omega arith; left = step_more room n tokens h; same = λ z. absurd (omega (arith, z)) }),
     )

@@ -1,28 +1,28 @@
 -- What the first byte tells, and that an operator, a delimiter or a line feed is what the lexer reads.
 use Prim.Native.Nat.{ℕ, ◌+◌, ◌≤◌, ◌<◌}
 use Prim.Native.Char.{code}
-use mathlib.Core.Path.{◌≡◌, refl, sym, ap, subst, ◌∙◌}
+use mathlib.Core.Path.{◌≡◌, refl, sym, ap, ◌∙◌}
 use mathlib.Core.Bool.{Bool, true, false, not, ◌||◌, ◌&&◌, true≢false, false≢true}
 use mathlib.Core.List.{List, [], ◌∷◌}
 use mathlib.Core.Logic.{◌≢◌, ⊎_elim}
 use native.Mathlib.Omega.{arith}
 use native.Mathlib.Decide.{dec_lt}
-use lib.Dec.{T, eqb, ltb}
+use lib.Dec.{T, eqb, ltb, leb}
 use lib.ListN.{length, get_or, drop}
-use borrow.Author.Tests.{ne_eqb, eqb-true, ltb-true, le-ltb, eq-eqb, not-true}
+use borrow.Author.Tests.{ne_eqb, eqb-true, leb-true, ltb-true, eq-eqb, not-true}
 use Rattle.basics.specs.Same.{same}
-use Rattle.basics.proofs.Choice.{either, and_split, none_of, between_true, below_it, above_it, true_of}
+use Rattle.basics.proofs.Choice.{and_split, none_of, below_it, above_it, true_of}
 use Rattle.basics.proofs.Every.{below, every_below}
 use Rattle.basics.proofs.Lists.{reach, same_true}
 use Rattle.utf8.specs.declared.Char.{Char}
 use Rattle.utf8.specs.Chars.{chars}
 use Rattle.digits.specs.Digit.{is_decimal}
-use Rattle.kinds.specs.Kinds.{ILLEGAL, EOF, IDENT, INT, STRING, ADD, LPAREN, PERIOD}
+use Rattle.kinds.specs.Kinds.{ILLEGAL, EOF, COMMENT, IDENT, INT, STRING, ADD, LPAREN, PERIOD}
 use Rattle.kinds.specs.declared.kind.Kind.{Kind}
+use Rattle.kinds.specs.declared.kind.Kind.TheVariants.{Period}
 use Rattle.kinds.specs.Number.{kind_number}
 use Rattle.kinds.specs.Table.{Class, Row, operators, specials, table, row_of, is_operator, sets_mark}
 use Rattle.kinds.specs.Table as kinds
-use Rattle.kinds.proofs.Ranges.{value_within}
 use Rattle.words.specs.Word.{is_letter}
 use Rattle.operators.specs.declared.Operator.{Operator}
 use Rattle.operators.specs.Longest.{OperatorSaid, operator_said, begins, op, operator_of}
@@ -36,17 +36,34 @@ use Rattle.lexer.proofs.Said.{semicolon_said}
 use Rattle.lexer.proofs.Tokens.{operator_fits, operator_token}
 use Rattle.lexer.proofs.Opened.{open_chars}
 use Rattle.lexer.proofs.Dispatch.{by_byte, is_by, feed_is, operator_is}
-use Rattle.batch.specs.Simple.{rows_from, first_kind}
+use Rattle.batch.specs.declared.first.First.{First}
+use Rattle.batch.specs.declared.first.First.TheVariants.{Letter, Delimiter, Point, LineFeed, Operator as Operates, Digit, Quote, Other}
+use Rattle.batch.specs.KindOf.{all_kinds}
+use Rattle.batch.specs.Simple.{rows_from, first_of}
 
 -- ---- what a byte tells, by computing each
+-- each class by a number: a delimiter by that of its kind, another by that of a kind of it
+abbrev pub first_number : First → ℕ
+first_number Letter = IDENT
+first_number (Delimiter kind) = kind_number kind
+first_number Point = PERIOD
+first_number LineFeed = COMMENT
+first_number Operates = ADD
+first_number Digit = INT
+first_number Quote = STRING
+first_number Other = ILLEGAL
+
+abbrev pub first_kind : ℕ → ℕ
+first_kind b = first_number (first_of b)
+
 -- what only bytes tell of which a test holds
 only : (kind : ℕ) (P : ℕ → Bool) → T (below (λ x. not (eqb (first_kind x) kind) || P x) 256) → (b : ℕ) → b < 256 → first_kind b ≡ kind → P b ≡ true
 only kind P all b h e =
     rw (eq-eqb (first_kind b) kind e) at (true_of (not (eqb (first_kind b) kind) || P b) (every_below (λ x. not (eqb (first_kind x) kind) || P x) 256 all b h))
 
-pub letter_first : (b : ℕ) → b < 256 → first_kind b ≡ IDENT → is_letter b ≡ true
-unfolding first_kind rows_from operators is_letter
-letter_first = only IDENT is_letter tt
+pub letter_first : (b : ℕ) → b < 256 → first_of b ≡ Letter → is_letter b ≡ true
+unfolding first_of rows_from operators is_letter all_kinds
+letter_first b h e = only IDENT is_letter tt b h (ap first_number e)
 
 -- a rule before that of the operators may read what starts with the byte
 abbrev ruled : ℕ → Bool
@@ -69,29 +86,25 @@ unruled b n mark r =
 abbrev pub starts_operator : ℕ → Bool
 starts_operator b = ltb 0 b && (ltb b 0x80 && (spells (b ∷ []) operators && not (ruled b)))
 
-pub operator_first : (b : ℕ) → b < 256 → first_kind b ≡ ADD → starts_operator b ≡ true
-unfolding first_kind rows_from operators is_letter same
-operator_first = only ADD starts_operator tt
+pub operator_first : (b : ℕ) → b < 256 → first_of b ≡ Operates → starts_operator b ≡ true
+unfolding first_of rows_from operators is_letter all_kinds same
+operator_first b h e = only ADD starts_operator tt b h (ap first_number e)
 
-pub digit_first : (b : ℕ) → b < 256 → first_kind b ≡ INT → is_decimal b ≡ true
-unfolding first_kind rows_from operators is_letter
-digit_first = only INT is_decimal tt
+pub digit_first : (b : ℕ) → b < 256 → first_of b ≡ Digit → is_decimal b ≡ true
+unfolding first_of rows_from operators is_letter all_kinds
+digit_first b h e = only INT is_decimal tt b h (ap first_number e)
 
-pub quote_first : (b : ℕ) → b < 256 → first_kind b ≡ STRING → b ≡ 34
-unfolding first_kind rows_from operators is_letter
-quote_first b h e = eqb-true b 34 (only STRING (λ x. eqb x 34) tt b h e)
+pub quote_first : (b : ℕ) → b < 256 → first_of b ≡ Quote → b ≡ 34
+unfolding first_of rows_from operators is_letter all_kinds
+quote_first b h e = eqb-true b 34 (only STRING (λ x. eqb x 34) tt b h (ap first_number e))
 
--- a digit tells a number
-pub first_digit : (b : ℕ) → is_decimal b ≡ true → first_kind b ≡ INT
-unfolding first_kind rows_from operators is_letter
-first_digit b d = let q = between_true 48 b 57 d in sym (value_within first_kind INT 48 10 tt b q.0 (omega (arith, q.1)))
+pub point_first : (b : ℕ) → b < 256 → first_of b ≡ Point → b ≡ 46
+unfolding first_of rows_from operators is_letter all_kinds
+point_first b h e = eqb-true b 46 (only PERIOD (λ x. eqb x 46) tt b h (ap first_number e))
 
-pub first_known : (b : ℕ) → b < 256 → eqb (first_kind b) EOF ≡ false
-unfolding first_kind rows_from operators is_letter
-first_known b h = not-true _ (true_of _ (every_below (λ x. not (eqb (first_kind x) EOF)) 256 tt b h))
-
-pub no_digit : (b : ℕ) → first_kind b ≢ INT → is_decimal b ≡ false
-no_digit b n = ⊎_elim (λ (e : is_decimal b ≡ true). absurd (n (first_digit b e))) (λ e. e) (either (is_decimal b))
+pub feed_first : (b : ℕ) → b < 256 → first_of b ≡ LineFeed → b ≡ 10
+unfolding first_of rows_from operators is_letter all_kinds
+feed_first b h e = eqb-true b 10 (only COMMENT (λ x. eqb x 10) tt b h (ap first_number e))
 
 -- the class of the operators
 abbrev is_of : Class → Bool
@@ -118,14 +131,25 @@ single_is kind b (x ∷ y ∷ rows) t = absurd (false≢true t)
 abbrev delimits : ℕ → Bool
 delimits b = ltb 0 b && (not (ruled b) && single (first_kind b) b (among b operators))
 
--- a byte that tells a kind from LPAREN on is a point or such a byte
-delimiter_first : (b : ℕ) → b < 256 → LPAREN ≤ first_kind b → eqb b (code ".") || delimits b ≡ true
-unfolding first_kind rows_from operators is_letter same
-delimiter_first b h high =
-    rw (le-ltb (first_kind b) LPAREN high) at (true_of (ltb (first_kind b) LPAREN || (eqb b (code ".") || delimits b)) (every_below (λ x. ltb (first_kind x) LPAREN || (eqb x (code ".") || delimits x)) 256 tt b h))
+abbrev is_delimiter : First → Bool
+is_delimiter Letter = false
+is_delimiter (Delimiter kind) = true
+is_delimiter Point = false
+is_delimiter LineFeed = false
+is_delimiter Operates = false
+is_delimiter Digit = false
+is_delimiter Quote = false
+is_delimiter Other = false
 
-otherwise : (a b : Bool) → a || b ≡ true → a ≡ false → b ≡ true
-otherwise a b t n = rw n at t
+-- a byte that tells a delimiter is such a byte, and its kind one from LPAREN on
+delimiter_first : (b : ℕ) → b < 256 → is_delimiter (first_of b) ≡ true → delimits b && leb LPAREN (first_kind b) ≡ true
+unfolding first_of rows_from operators is_letter all_kinds same
+delimiter_first b h e =
+    rw e at (true_of (not (is_delimiter (first_of b)) || (delimits b && leb LPAREN (first_kind b)))
+    (every_below (λ x. not (is_delimiter (first_of x)) || (delimits x && leb LPAREN (first_kind x))) 256 tt b h))
+
+pub delimiter_kind : (b : ℕ) → b < 256 → (kind : Kind) → first_of b ≡ Delimiter kind → LPAREN ≤ kind_number kind
+delimiter_kind b h kind e = rw (ap first_number e) at (leb-true LPAREN (first_kind b) (and_split (delimits b) _ (delimiter_first b h (ap is_delimiter e))).1)
 
 -- a letter is past the digits and the point
 pub letter_past : (b : ℕ) → is_letter b ≡ true → 65 ≤ b
@@ -151,35 +175,25 @@ module _ (s : List ℕ) (at : ℕ) (mark : Bool) where
   alone x kind some rows n by e = operator_read x kind some e (one_is s at x e (kind_number kind) rows) n by
 
   -- a point before a letter
-  point : (kind : Kind) → kind_number kind ≡ PERIOD → is_letter (get_or s (at + 1) 0) ≡ true
-      → get_or s at 0 ≡ 46 → said s at (bare_as kind (at + 1) 1 (sets_mark (kind_number kind))) ≡ placed s at (lex_token mark (chars (drop at s)))
+  pub point_read : get_or s at 0 ≡ 46 → is_letter (get_or s (at + 1) 0) ≡ true
+      → said s at (bare_as Period (at + 1) 1 false) ≡ placed s at (lex_token mark (chars (drop at s)))
   unfolding lex_by is_letter
-  point kind k l e =
+  point_read e l =
       let p = letter_past (get_or s (at + 1) 0) l in
       let no-point = ne_eqb (get_or s (at + 1) 0) 46 (λ z. omega (arith, p, z)) in
       let no_digit = above_it 48 (get_or s (at + 1) 0) 57 (omega (arith, p)) (omega (arith, p)) in
-      operator_read 46 kind (omega arith) e (rw k (rw no-point at (period_is s at e))) (λ z. omega (arith, k, z))
+      operator_read 46 Period (omega arith) e (rw no-point at (period_is s at e)) (λ z. omega (arith, z))
       (sym (rw e at (operator_is mark s at (reach s at (omega (arith, e))) (get_or s (at + 1) 0) refl (rw (e, no_digit)) (rw e) (rw (e, no-point)))))
 
-  -- the delimiter by what its byte tells
-  abbrev Reads : ℕ → Type 0
-  Reads b =
-      (kind : Kind) → kind_number kind ≡ first_kind b → get_or s at 0 ≡ b → (first_kind b ≡ PERIOD → is_letter (get_or s (at + 1) 0) ≡ true)
+  -- the delimiter that a byte tells
+  pub delimiter_read : (b : ℕ) → b < 256 → (kind : Kind) → first_of b ≡ Delimiter kind → get_or s at 0 ≡ b
       → said s at (bare_as kind (at + 1) 1 (sets_mark (kind_number kind))) ≡ placed s at (lex_token mark (chars (drop at s)))
-
-  point_read : Reads 46
-  unfolding first_kind rows_from operators is_letter
-  point_read kind k e p = point kind k (p refl) e
-
-  pub delimiter_read : (b : ℕ) → b < 256 → LPAREN ≤ first_kind b → Reads b
-  delimiter_read b h high kind k e p =
-      ⊎_elim (λ (t : eqb b (code ".") ≡ true). subst Reads (sym (eqb-true b (code ".") t)) point_read kind k e p)
-      (λ (t : eqb b (code ".") ≡ false).
-      let q = and_split (ltb 0 b) _ (otherwise (eqb b (code ".")) (delimits b) (delimiter_first b h high) t) in
+  delimiter_read b h kind is e =
+      let high = delimiter_kind b h kind is in
+      let q = and_split (ltb 0 b) _ (and_split (delimits b) _ (delimiter_first b h (ap is_delimiter is))).0 in
       let u = and_split (not (ruled b)) _ q.1 in
-      alone b kind (ltb-true 0 b q.0) (rw k (single_is (first_kind b) b (among b operators) u.1)) (λ z. omega (arith, z, k, high))
-      (unruled b (not-true (ruled b) u.0) mark (chars (drop at s))) e)
-      (either (eqb b (code ".")))
+      alone b kind (ltb-true 0 b q.0) (rw (ap first_number is) at (single_is (first_kind b) b (among b operators) u.1)) (λ z. omega (arith, z, high))
+      (unruled b (not-true (ruled b) u.0) mark (chars (drop at s))) e
 
   -- the semicolon before a line feed
   pub feed_read : get_or s at 0 ≡ 10 → said s at (inserted_at at) ≡ placed s at (lex_token mark (chars (drop at s)))

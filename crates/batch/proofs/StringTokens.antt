@@ -1,4 +1,4 @@
--- A string of plain characters alone that was written is one that the lexer says.
+-- A string of plain characters alone that was given is one that the lexer says.
 use Prim.Native.Nat.{ℕ, ◌+◌, ◌-◌, ◌<◌}
 use mathlib.Core.Path.{◌≡◌, refl, ap, ◌∙◌}
 use mathlib.Core.Bool.{Bool, true, false, cond}
@@ -7,7 +7,6 @@ use mathlib.Core.List.{List}
 use native.Mathlib.Omega.{arith}
 use lib.Dec.{eqb}
 use lib.ListN.{length, drop, get_or}
-use lib.Seq.{sets}
 use Rattle.utf8.specs.Chars.{chars}
 use Rattle.kinds.specs.Kinds.{STRING}
 use Rattle.kinds.specs.declared.kind.Kind.TheVariants.{String}
@@ -20,8 +19,8 @@ use Rattle.lexer.specs.Made.{shown_as}
 use Rattle.lexer.specs.Placed.{placed, said}
 use Rattle.lexer.proofs.QuotedTokens.{literal_as, string_closed}
 use Rattle.lexer.proofs.Dispatch.{string_is}
-use Rattle.parts.specs.Layout.{token_numbers}
 use Rattle.scanner.specs.Steps.{token_by}
+use Rattle.batch.specs.declared.next.Next.{Next}
 use Rattle.batch.specs.Simple.{string_token, Gave}
 
 -- the lexer's answer for a string of n plain characters; the code is that of the first
@@ -56,9 +55,9 @@ module _ (src : List ℕ) (at close : ℕ) (there : get_or src at 0 ≡ 34) (e :
           value = record { area = false; start = at + 1; end = value i };
         }
 
-    pub gives_string : (safe : ℕ) (tokens : List ℕ) (to : ℕ) → close < safe → {tokens' : List ℕ}
-        → tokens' ≡ sets tokens to (token_numbers (string_token position at close)) → Gave src at safe position tokens to (record { place = close + 1; mark = true }) tokens'
-    gives_string safe tokens to near {tokens'} w =
+    pub gives_string : (safe : ℕ) → close < safe → {r : Next}
+        → r ≡ record { token = string_token position at close; place = close + 1; mark = true } → Gave src at safe position r
+    gives_string safe near {r} is =
         record {
           x = answer;
           reads = reads;
@@ -67,7 +66,7 @@ module _ (src : List ℕ) (at close : ℕ) (there : get_or src at 0 ≡ 34) (e :
           feeds = refl;
           known = refl;
           near = omega (arith, e, near);
-          place = omega (arith, e);
-          mark = refl;
-          written = w ∙ ap (λ t. sets tokens to (token_numbers t)) token_is;
+          token = ap (λ (y : Next). y.token) is ∙ token_is;
+          place = ap (λ (y : Next). y.place) is ∙ omega (arith, e);
+          mark = ap (λ (y : Next). y.mark) is;
         }

@@ -1,3 +1,4 @@
+pub mod KindOf
 pub mod Many
 pub mod Near
 pub mod Simple

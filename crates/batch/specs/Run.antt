@@ -1,5 +1,5 @@
 -- Steps of the code. No public contract cites this file. Runs of simple tokens and rounds of scans.
-use Rattle.std.specs.Prelude.{ℕ, ◌+◌, ◌-◌, ◌≤◌, ◌<◌, ◌≡◌, ◌^◌, Bool, true, List, ◌⊎◌, length, drop, set, Option, IfSome, MatchOption, Result, Ok, Err}
+use Rattle.std.specs.Prelude.{ℕ, ◌+◌, ◌-◌, ◌*◌, ◌≤◌, ◌<◌, ◌≡◌, ◌^◌, Bool, true, List, ◌⊎◌, length, drop, set, Option, IfSome, MatchOption, Result, Ok, Err}
 use Rattle.std.specs.declared.ops.ControlFlow.{ControlFlow}
 use Rattle.std.specs.declared.ops.ControlFlow.TheVariants.{Continue, Break}
 use Rattle.utf8.specs.Chars.{chars}
@@ -11,12 +11,19 @@ use Rattle.blanks.specs.Blank.{skip, skipped_at}
 use Rattle.state.specs.declared.state.State.{State}
 use Rattle.state.specs.State.{advance}
 use Rattle.state.specs.Fits.{fits}
+use Rattle.std.proofs.lemmas.List.Edits.{sets}
+use Rattle.parts.specs.declared.token.Token.{Token}
+use Rattle.parts.specs.Layout.{token_width, token_numbers}
 use Rattle.scanner.specs.Scan.{scan_of}
 use Rattle.batch.specs.declared.step.Reached.{Reached}
 use Rattle.batch.specs.declared.near.Near.{Near}
 use Rattle.batch.specs.declared.run.Batch.{Batch}
 use Rattle.batch.specs.Near.{near_as}
-use Rattle.batch.specs.Many.{stopped, many_of, left_after}
+use Rattle.batch.specs.Many.{stopped, many_of, token_room, left_after}
+
+-- there is room for a token after so many
+abbrev pub HasRoom : ℕ → List ℕ → Type 0
+HasRoom count tokens = count < token_room tokens
 
 -- the state at a place after simple tokens, whose characters are of one byte each; the table has the
 -- line starts before it
@@ -28,8 +35,8 @@ abbrev pub reached : State → Reached → List ℕ → State
 reached s r table = state_at s r.place r.mark r.lines table
 
 -- where a run starts
-abbrev pub start_at : Batch → Reached
-start_at b = record { place = b.state.place; mark = b.state.mark; lines = b.state.lines; count = b.count }
+abbrev pub start_at : State → Reached
+start_at s = record { place = s.place; mark = s.mark; lines = s.lines }
 
 -- from each place before the safe one more than sixteen bytes are in the source, and the offset
 -- stays below the size
@@ -60,17 +67,19 @@ IsLined s at blanks table =
 pub record Leads (room : ℕ) (src list : List ℕ) (s : State) (table tokens : List ℕ) (n : ℕ) (s' : State) (table' tokens' : List ℕ) (n' : ℕ) : Type 0 where
   pub fit : fits s' src table' list ≡ true
   pub over : n ≤ n'
-  pub within : n' ≤ room
+  pub within : n ≤ room → n' ≤ room
   pub left : (area : List ℕ)
       → left_after n tokens (many_of (room - n) src s table list area) ≡ left_after n' tokens' (many_of (room - n') src s' table' list area)
   pub same : n' ≡ n → (area : List ℕ) → scan_of src s table list area ≡ scan_of src s' table' list area
 
--- a step of a run gives one token more, or leaves all as it is
-abbrev pub StepsTo : List ℕ → List ℕ → State → Reached → List ℕ → List ℕ → Option Reached → List ℕ → List ℕ → Type 0
-StepsTo src list s at table tokens r table' tokens' =
-    MatchOption r ((table' ≡ table) × (tokens' ≡ tokens))
-    (λ next. (s.place ≤ next.place) × (next.count ≡ at.count + 1)
-    × ((room : ℕ) → at.count < room → Leads room src list (reached s at table) table tokens at.count (reached s next table') table' tokens' next.count))
+-- a step of a run gives one token more, which is to be written after the others, or leaves all as
+-- it is
+abbrev pub StepsTo : List ℕ → List ℕ → State → Reached → List ℕ → Option (Token × Reached) → List ℕ → Type 0
+StepsTo src list s at table r table' =
+    MatchOption r (table' ≡ table)
+    (λ step. (s.place ≤ step.1.place)
+    × ((room n : ℕ) (tokens : List ℕ) → n < room
+    → Leads room src list (reached s at table) table tokens n (reached s step.1 table') table' (sets tokens (n * token_width) (token_numbers step.0)) (n + 1)))
 
 -- from a state and its count rounds of scans lead to others, from which scans go on; with no token
 -- more, the next scan is refused as this one

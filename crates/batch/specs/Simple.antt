@@ -1,13 +1,10 @@
 -- Steps of the code. No public contract cites this file. Simple tokens, as the code of many scans reads them.
-use Rattle.std.specs.Prelude.{ℕ, ◌+◌, ◌-◌, ◌<◌, ◌≡◌, Bool, true, false, cond, List, [], ◌∷◌, eqb, length, drop, get_or, Option, MatchOption}
+use Rattle.std.specs.Prelude.{ℕ, ◌+◌, ◌-◌, ◌<◌, ◌≡◌, Bool, true, false, cond, List, [], ◌∷◌, eqb, length, drop, get_or, Option, IfSome}
 use Prim.Native.Char.{code}
-use Rattle.std.proofs.lemmas.List.Edits.{sets}
 use Rattle.utf8.specs.Chars.{chars}
 use Rattle.digits.specs.Digit.{is_decimal}
-use Rattle.kinds.specs.Kinds.{ILLEGAL, EOF, IDENT, INT, STRING, ADD, PERIOD}
+use Rattle.kinds.specs.Kinds.{EOF, IDENT, STRING}
 use Rattle.kinds.specs.Table.{Row, operators, keywords}
-use Rattle.kinds.specs.declared.kind.Kind.{Kind}
-use Rattle.kinds.specs.declared.kind.Kind.TheVariants.{Illegal}
 use Rattle.kinds.specs.Number.{kind_number}
 use Rattle.keywords.specs.Search.{by_slot, row_in, kind_in}
 use Rattle.words.specs.Word.{is_letter}
@@ -15,8 +12,12 @@ use Rattle.lexer.specs.declared.lexed.Lexed.{Lexed}
 use Rattle.lexer.specs.Lex.{lex_token}
 use Rattle.lexer.specs.Placed.{placed, said}
 use Rattle.parts.specs.declared.token.Token.{Token}
+use Rattle.batch.specs.declared.first.First.{First}
+use Rattle.batch.specs.declared.first.First.TheVariants.{Letter, Delimiter, Point, LineFeed, Operator, Digit, Quote, Other}
 use Rattle.batch.specs.declared.next.Next.{Next}
-use Rattle.parts.specs.Layout.{token_numbers}
+use Rattle.batch.specs.declared.start.Start.{Start}
+use Rattle.batch.specs.KindOf.{kind_of}
+use Rattle.batch.specs.Near.{line_feed}
 use Rattle.scanner.specs.Steps.{is_plain, token_by}
 
 -- the rows whose name starts with a byte
@@ -25,29 +26,37 @@ rows_from b [] = []
 rows_from b (row ∷ rows) = cond (eqb (get_or row.name 0 0) b) (row ∷ rows_from b rows) (rows_from b rows)
 
 -- what the first byte of these operators tells: a delimiter of its kind, if it is the only one and
--- all of it; else ADD
-abbrev pub operator_first : List Row → ℕ
-operator_first [] = ILLEGAL
-operator_first (row ∷ []) = cond (eqb (length row.name) 1) row.kind ADD
-operator_first (row ∷ next ∷ rows) = ADD
+-- all of it; else an operator
+abbrev pub operator_first : List Row → First
+operator_first [] = Other
+operator_first (row ∷ []) = cond (eqb (length row.name) 1) (Delimiter (kind_of row.kind)) Operator
+operator_first (row ∷ next ∷ rows) = Operator
 
 -- the double quote, with which a string starts and ends
 abbrev pub quote : ℕ
 quote = code "\""
 
--- what a first byte tells; after a point there may be a number or another operator, a slash may
--- start a comment
-unfoldable pub first_kind : ℕ → ℕ
-first_kind b =
-    cond (is_letter b) IDENT
-    (cond (is_decimal b) INT
-    (cond (eqb b quote) STRING
-    (cond (eqb b (code ".")) PERIOD
-    (cond (eqb b (code "/")) ILLEGAL (operator_first (rows_from b operators))))))
+abbrev pub point : ℕ
+point = code "."
+
+-- what a first byte tells; a slash may start a comment
+unfoldable pub first_of : ℕ → First
+first_of b =
+    cond (is_letter b) Letter
+    (cond (is_decimal b) Digit
+    (cond (eqb b quote) Quote
+    (cond (eqb b line_feed) LineFeed
+    (cond (eqb b point) Point
+    (cond (eqb b (code "/")) Other (operator_first (rows_from b operators)))))))
 
 -- the table of what each first byte tells
-abbrev pub IsTable : List Kind → Type 0
-IsTable table = (b : ℕ) → b < 256 → kind_number (get_or table b Illegal) ≡ first_kind b
+abbrev pub IsTable : List First → Type 0
+IsTable table = (b : ℕ) → b < 256 → get_or table b Other ≡ first_of b
+
+-- so many decimal digits are before another byte
+abbrev pub DigitsBefore : List ℕ → ℕ → Type 0
+DigitsBefore text n =
+    (n < length text) × (is_decimal (get_or text n 0) ≡ false) × ((k : ℕ) → k < n → is_decimal (get_or text k 0) ≡ true)
 
 -- the tables of the keywords of at most eight bytes: their numbers and their kinds, each in its
 -- slot
@@ -86,10 +95,14 @@ string_token position start close =
 abbrev pub word_token : ℕ → ℕ → ℕ → ℕ → Token
 word_token kind position at end = simple_token kind false position at (cond (eqb kind IDENT) end at)
 
+-- a letter is at a place where a token starts
+abbrev pub StartsWord : Start → Type 0
+StartsWord start = is_letter (get_or start.src.now start.at 0) ≡ true
+
 -- what was given is what the lexer says of the token at a place, whatever the mark is: a plain
 -- token of ASCII characters, no line feed among them, that ends at most sixteen bytes after the
 -- safe place
-pub record Gave (src : List ℕ) (at safe position : ℕ) (tokens : List ℕ) (to : ℕ) (r : Next) (tokens' : List ℕ) : Type 0 where
+pub record Gave (src : List ℕ) (at safe position : ℕ) (r : Next) : Type 0 where
   pub x : Lexed
   pub reads : (mark : Bool) → said src at x ≡ placed src at (lex_token mark (chars (drop at src)))
   pub plain : is_plain x ≡ true
@@ -97,10 +110,14 @@ pub record Gave (src : List ℕ) (at safe position : ℕ) (tokens : List ℕ) (t
   pub feeds : x.lfs ≡ 0
   pub known : eqb (kind_number x.kind) EOF ≡ false
   pub near : x.end < safe + 16
+  pub token : r.token ≡ token_by x at position
   pub place : r.place ≡ x.end
   pub mark : r.mark ≡ x.mark
-  pub written : tokens' ≡ sets tokens to (token_numbers (token_by x at position))
 
--- where none is found, nothing is written
-abbrev pub GivesSimple : List ℕ → ℕ → ℕ → ℕ → List ℕ → ℕ → Option Next → List ℕ → Type 0
-GivesSimple src at safe position tokens to r tokens' = MatchOption r (tokens' ≡ tokens) (λ next. Gave src at safe position tokens to next tokens')
+-- the same of what was given where a token starts
+abbrev pub Gives : Start → Next → Type 0
+Gives start next = Gave start.src.now start.at start.safe start.position next
+
+-- if it was given
+abbrev pub GivesSimple : Start → Option Next → Type 0
+GivesSimple start r = IfSome r (Gives start)

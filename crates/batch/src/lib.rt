@@ -1,6 +1,7 @@
 // Many scans in one call.
 #![tactic(auto)]
 
+mod first;
 mod layout;
 mod literal;
 mod many;
@@ -9,6 +10,7 @@ mod next;
 mod round;
 mod run;
 mod simple;
+mod start;
 mod step;
 mod tables;
 mod word;

@@ -21,7 +21,7 @@ fn gave(last: Batch, table: &[usize]) -> Batch
     ensures { result ≡ last }
 {
     Batch {
-        state: state_at(last.state, start_at(last), table),
+        state: state_at(last.state, start_at(last.state), table),
         ..last
     }
 }
@@ -50,14 +50,13 @@ fn scan_rounds(
     requires { (fits first src.now table.old list.old ≡ true) × (token_width ≤ length tokens.old) }
     ensures { many_left first result table.new list.new area.new tokens.new ≡ scan_many_of src.now first table.old list.old area.old tokens.old }
 {
-    let room = tokens.len() / Token::NUMBERS;
     let tables = Tables::new();
     let mut round = Batch {
         state: first,
         count: 0,
     };
     loop {
-        match scan_round(src, &tables, round, table, list, area, tokens, room) {
+        match scan_round(src, &tables, round, table, list, area, tokens) {
             ControlFlow::Continue(next) => round = next,
             ControlFlow::Break(end) => return ended(end, table),
         }

@@ -1,48 +1,36 @@
-// What comes of a simple token, and how it is written.
-ghost use Rattle.std.specs.Prelude.{◌≡◌, false, ◌+◌, ◌≤◌, length};
-ghost use Rattle.std.proofs.lemmas.List.Edits.{sets};
-ghost use Rattle.parts.specs.Layout.{token_width, token_numbers};
+// What comes of a simple token.
+ghost use Rattle.std.specs.Prelude.{◌≡◌};
 ghost use Rattle.batch.specs.Simple.{simple_token};
 
-use crate::layout::put_token_at;
+use crate::start::Start;
 use parts::{Part, Token};
 
-// What comes of a simple token: the place after it, and the mark that it leaves.
+// A simple token, the place after it, and the mark that it leaves.
 #[derive(Clone, Copy)]
 pub(crate) struct Next {
+    pub(crate) token: Token,
     pub(crate) place: usize,
     pub(crate) mark: bool,
 }
 
-// Writes a token without a value to the numbers from an index on; its text is the source's bytes
-// from its start to an end.
-pub(crate) fn put_shown(
-    kind: u8,
-    inserted: bool,
-    position: usize,
-    start: usize,
-    end: usize,
-    tokens: &mut [usize],
-    to: usize,
-)
-    requires { to + token_width ≤ length tokens.old }
-    ensures { tokens.new ≡ sets tokens.old to (token_numbers (simple_token kind inserted position start end)) }
+// A token without a value; its text is the source's bytes from its start to an end.
+pub(crate) fn simple_token(start: Start<'_>, kind: u8, inserted: bool, end: usize) -> Token
+    ensures { result ≡ simple_token kind inserted start.entry.position start.entry.at end }
 {
-    let token = Token {
+    Token {
         kind,
         inserted,
-        position,
+        position: start.position,
         code: 0,
         text: Part {
             area: false,
-            start,
+            start: start.at,
             end,
         },
         value: Part {
             area: false,
-            start,
-            end: start,
+            start: start.at,
+            end: start.at,
         },
-    };
-    put_token_at(token, tokens, to);
+    }
 }

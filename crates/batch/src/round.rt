@@ -1,11 +1,10 @@
 // Rounds of scans: a run of simple tokens, and a whole scan for the token after them.
-ghost use Rattle.std.specs.Prelude.{◌≡◌, true, not, ◌&&◌, ◌*◌, ◌≤◌, ◌<◌, ltb, length};
+ghost use Rattle.std.specs.Prelude.{◌≡◌, true, not, ◌&&◌, ltb};
 ghost use Rattle.state.specs.Fits.{fits};
-ghost use Rattle.parts.specs.Layout.{token_width};
-ghost use Rattle.batch.specs.Many.{is_last};
-ghost use Rattle.batch.specs.Run.{Comes};
+ghost use Rattle.batch.specs.Many.{is_last, token_room};
+ghost use Rattle.batch.specs.Run.{HasRoom, Comes};
 
-use crate::layout::put_token_at;
+use crate::layout::{put_token_at, token_room};
 use crate::run::{Batch, run_simple};
 use crate::tables::Tables;
 use kinds::Kind;
@@ -40,10 +39,9 @@ fn scan_next(
     list: &mut [usize],
     area: &mut [u8],
     tokens: &mut [usize],
-    room: usize,
 ) -> Round
-    requires { (fits from.state src.now table.old list.old ≡ true) × (from.count < room) × (room * token_width ≤ length tokens.old) }
-    ensures { Comes room src.now from table.old list.old area.old tokens.old result table.new list.new area.new tokens.new }
+    requires { (fits from.state src.now table.old list.old ≡ true) × HasRoom from.count tokens.old }
+    ensures { Comes (token_room tokens.old) src.now from table.old list.old area.old tokens.old result table.new list.new area.new tokens.new }
 {
     let scanned = match scan(src, from.state, table, list, area) {
         Ok(scanned) => scanned,
@@ -54,12 +52,12 @@ fn scan_next(
             return ControlFlow::Break(Ok(from));
         }
     };
-    put_token_at(scanned.token, tokens, from.count * Token::NUMBERS);
+    put_token_at(scanned.token, tokens, from.count);
     let given = Batch {
         state: scanned.state,
         count: from.count + 1,
     };
-    if goes_on(scanned.token, given.count, room) {
+    if goes_on(scanned.token, given.count, token_room(tokens)) {
         return ControlFlow::Continue(given);
     }
     ControlFlow::Break(Ok(given))
@@ -74,14 +72,13 @@ pub(crate) fn scan_round(
     list: &mut [usize],
     area: &mut [u8],
     tokens: &mut [usize],
-    room: usize,
 ) -> Round
-    requires { (fits from.state src.now table.old list.old ≡ true) × (from.count < room) × (room * token_width ≤ length tokens.old) }
-    ensures { Comes room src.now from table.old list.old area.old tokens.old result table.new list.new area.new tokens.new }
+    requires { (fits from.state src.now table.old list.old ≡ true) × HasRoom from.count tokens.old }
+    ensures { Comes (token_room tokens.old) src.now from table.old list.old area.old tokens.old result table.new list.new area.new tokens.new }
 {
-    let run = run_simple(src, tables, from, table, list, tokens, room);
-    if run.count == room {
+    let run = run_simple(src, tables, from, table, list, tokens);
+    if run.count == token_room(tokens) {
         return ControlFlow::Break(Ok(run));
     }
-    scan_next(src, run, table, list, area, tokens, room)
+    scan_next(src, run, table, list, area, tokens)
 }

@@ -1,9 +1,10 @@
 // Runs of simple tokens.
-ghost use Rattle.std.specs.Prelude.{◌≡◌, true, ◌+◌, ◌-◌, ◌*◌, ◌≤◌, ◌<◌, ◌^◌, length};
+ghost use Rattle.std.specs.Prelude.{◌≡◌, true, ◌+◌, ◌-◌, ◌≤◌, ◌<◌, ◌^◌, length};
 ghost use Rattle.state.specs.Fits.{fits};
-ghost use Rattle.parts.specs.Layout.{token_width};
+ghost use Rattle.batch.specs.Many.{token_room};
 ghost use Rattle.batch.specs.Run.{reached, start_at, IsSafe, Leads};
 
+use crate::layout::{put_token_at, token_room};
 use crate::step::{Reached, next_simple};
 use crate::tables::Tables;
 use position::Line;
@@ -17,14 +18,13 @@ pub struct Batch {
 }
 
 // Where a run starts.
-pub(crate) fn start_at(from: Batch) -> Reached
-    ensures { result ≡ start_at from }
+pub(crate) fn start_at(first: State) -> Reached
+    ensures { result ≡ start_at first }
 {
     Reached {
-        place: from.state.place,
-        mark: from.state.mark,
-        lines: from.state.lines,
-        count: from.count,
+        place: first.place,
+        mark: first.mark,
+        lines: first.lines,
     }
 }
 
@@ -53,7 +53,7 @@ fn safe_end(src: &[u8], first: State) -> usize
 }
 
 // Gives simple tokens one after the other while there is room. What changes from token to token is
-// kept in few numbers.
+// kept in few numbers. (The loop is no `for`, since its count where it stops is an answer.)
 pub(crate) fn run_simple(
     src: &[u8],
     tables: &Tables,
@@ -61,22 +61,27 @@ pub(crate) fn run_simple(
     table: &mut [usize],
     list: &[usize],
     tokens: &mut [usize],
-    room: usize,
 ) -> Batch
-    requires { (fits from.state src.now table.old list.now ≡ true) × (from.count < room) × (room * token_width ≤ length tokens.old) }
-    ensures { Leads room src.now list.now from.state table.old tokens.old from.count result.state table.new tokens.new result.count }
+    requires { fits from.state src.now table.old list.now ≡ true }
+    ensures { Leads (token_room tokens.old) src.now list.now from.state table.old tokens.old from.count result.state table.new tokens.new result.count }
 {
     let first = from.state;
     let safe = safe_end(src, first);
-    let mut at = start_at(from);
-    while at.count < room {
-        match next_simple(src, tables, first, safe, at, table, list, tokens) {
-            Some(next) => at = next,
+    let room = token_room(tokens);
+    let mut at = start_at(first);
+    let mut count = from.count;
+    while count < room {
+        match next_simple(src, tables, first, safe, at, table, list) {
+            Some((token, next)) => {
+                put_token_at(token, tokens, count);
+                at = next;
+                count += 1;
+            }
             None => break,
         }
     }
     Batch {
         state: state_at(first, at, table),
-        count: at.count,
+        count,
     }
 }

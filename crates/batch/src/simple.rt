@@ -1,121 +1,84 @@
 // Simple tokens: words, delimiters, operators but those that start with a slash, decimal integers,
 // strings of plain characters, and the semicolon that is inserted before a line feed. The first
 // byte tells what to try. Their text is the source's own bytes.
-ghost use Rattle.std.specs.Prelude.{◌≡◌, ◌+◌, ◌≤◌, ◌<◌, length, get_or};
-ghost use Rattle.kinds.specs.Kinds.{ADD, LPAREN};
-ghost use Rattle.kinds.specs.Number.{kind_number};
-ghost use Rattle.parts.specs.Layout.{token_width};
+ghost use Rattle.std.specs.Prelude.{◌≡◌, get_or};
+ghost use Rattle.batch.specs.declared.first.First.TheVariants.{Delimiter, Operator};
 ghost use Rattle.batch.specs.Near.{line_feed};
-ghost use Rattle.batch.specs.Simple.{first_kind, GivesSimple};
+ghost use Rattle.batch.specs.Simple.{point, first_of, Gives, GivesSimple};
 
+use crate::first::First;
 use crate::literal::{decimal, string};
-use crate::next::{Next, put_shown};
+use crate::next::{Next, simple_token};
+use crate::start::Start;
 use crate::tables::Tables;
 use crate::word::word;
 use kinds::Kind;
 
 // Gives the operator at a place.
-fn operator(
-    src: &[u8],
-    at: usize,
-    safe: usize,
-    position: usize,
-    tokens: &mut [usize],
-    to: usize,
-) -> Option<Next>
-    requires { (at < safe) × (safe ≤ length src.now) × (first_kind (get_or src.now at 0) ≡ ADD) × (to + token_width ≤ length tokens.old) }
-    ensures { GivesSimple src.now at safe position tokens.old to result tokens.new }
+fn operator(start: Start<'_>) -> Next
+    requires { first_of (get_or start.src.now start.at 0) ≡ Operator }
+    ensures { Gives start.entry result }
 {
-    let o = operators::scan_operator(src, at);
+    let o = operators::scan_operator(start.src, start.at);
     let kind = o.kind as u8;
-    put_shown(kind, false, position, at, at, tokens, to);
-    Some(Next {
-        place: at + o.len,
+    Next {
+        token: simple_token(start, kind, false, start.at),
+        place: start.at + o.len,
         mark: kinds::sets_mark(kind),
-    })
-}
-
-// Gives the delimiter of a kind at a place; a point is one before a letter.
-fn delimiter(
-    src: &[u8],
-    tables: &Tables,
-    at: usize,
-    safe: usize,
-    kind: Kind,
-    position: usize,
-    tokens: &mut [usize],
-    to: usize,
-) -> Option<Next>
-    requires { (at < safe) × (safe < length src.now) × (kind_number kind ≡ first_kind (get_or src.now at 0)) × (LPAREN ≤ kind_number kind)
-        × (to + token_width ≤ length tokens.old) }
-    ensures { GivesSimple src.now at safe position tokens.old to result tokens.new }
-{
-    if kind == Kind::Period {
-        if tables.first(src[at + 1]) != Kind::Ident {
-            return None;
-        }
     }
-    put_shown(kind as u8, false, position, at, at, tokens, to);
-    Some(Next {
-        place: at + 1,
-        mark: kinds::sets_mark(kind as u8),
-    })
 }
 
-// Gives the semicolon that is inserted before a line feed.
-fn semicolon(
-    src: &[u8],
-    at: usize,
-    safe: usize,
-    position: usize,
-    tokens: &mut [usize],
-    to: usize,
-) -> Option<Next>
-    requires { (at < safe) × (get_or src.now at 0 ≡ line_feed) × (to + token_width ≤ length tokens.old) }
-    ensures { GivesSimple src.now at safe position tokens.old to result tokens.new }
+// Gives the delimiter of a kind at a place.
+fn delimiter(start: Start<'_>, kind: Kind) -> Next
+    requires { first_of (get_or start.src.now start.at 0) ≡ Delimiter kind }
+    ensures { Gives start.entry result }
 {
-    put_shown(Kind::Semicolon as u8, true, position, at, at, tokens, to);
+    Next {
+        token: simple_token(start, kind as u8, false, start.at),
+        place: start.at + 1,
+        mark: kinds::sets_mark(kind as u8),
+    }
+}
+
+// Gives the point at a place, where a letter is after it.
+fn point(start: Start<'_>, tables: &Tables) -> Option<Next>
+    requires { get_or start.src.now start.at 0 ≡ point }
+    ensures { GivesSimple start.entry result }
+{
+    let First::Letter = tables.first(start.src[start.at + 1]) else {
+        return None;
+    };
     Some(Next {
-        place: at,
+        token: simple_token(start, Kind::Period as u8, false, start.at),
+        place: start.at + 1,
         mark: false,
     })
 }
 
-// Gives the simple token at a place before which it is safe to read on, if there is one: it is
-// written to the numbers from an index on. Each kind is written by itself, so that what it leaves
-// empty takes no time. The tests stand in the order of how often they hold, which a `match` does
-// not keep.
-pub(crate) fn give_simple(
-    src: &[u8],
-    tables: &Tables,
-    at: usize,
-    safe: usize,
-    position: usize,
-    tokens: &mut [usize],
-    to: usize,
-) -> Option<Next>
-    requires { (at < safe) × (safe < length src.now) × (to + token_width ≤ length tokens.old) }
-    ensures { GivesSimple src.now at safe position tokens.old to result tokens.new }
+// Gives the semicolon that is inserted before a line feed.
+fn semicolon(start: Start<'_>) -> Next
+    requires { get_or start.src.now start.at 0 ≡ line_feed }
+    ensures { Gives start.entry result }
 {
-    let b = src[at];
-    let first = tables.first(b);
-    if first == Kind::Ident {
-        return word(src, tables, at, safe, position, tokens, to);
+    Next {
+        token: simple_token(start, Kind::Semicolon as u8, true, start.at),
+        place: start.at,
+        mark: false,
     }
-    if first as u8 >= Kind::Lparen as u8 {
-        return delimiter(src, tables, at, safe, first, position, tokens, to);
+}
+
+// Gives the simple token at a place, if there is one.
+pub(crate) fn give_simple(start: Start<'_>, tables: &Tables) -> Option<Next>
+    ensures { GivesSimple start.entry result }
+{
+    match tables.first(start.src[start.at]) {
+        First::Letter => word(start, tables),
+        First::Delimiter(kind) => Some(delimiter(start, kind)),
+        First::Point => point(start, tables),
+        First::LineFeed => Some(semicolon(start)),
+        First::Operator => Some(operator(start)),
+        First::Digit => decimal(start, tables),
+        First::Quote => string(start),
+        First::Other => None,
     }
-    if b == b'\n' {
-        return semicolon(src, at, safe, position, tokens, to);
-    }
-    if first == Kind::Add {
-        return operator(src, at, safe, position, tokens, to);
-    }
-    if first == Kind::Int {
-        return decimal(src, tables, at, safe, position, tokens, to);
-    }
-    if first == Kind::String {
-        return string(src, at, safe, position, tokens, to);
-    }
-    None
 }

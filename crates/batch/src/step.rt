@@ -1,24 +1,23 @@
 // A step of a run: blanks, and one simple token after them.
-ghost use Rattle.std.specs.Prelude.{◌≡◌, true, ℕ, ◌+◌, ◌-◌, ◌*◌, ◌≤◌, ◌<◌, length};
+ghost use Rattle.std.specs.Prelude.{◌≡◌, true, ℕ, ◌+◌, ◌≤◌, ◌<◌, length};
 ghost use Rattle.state.specs.Fits.{fits};
-ghost use Rattle.parts.specs.Layout.{token_width};
 ghost use Rattle.batch.specs.Near.{feeds_of, near_as};
 ghost use Rattle.batch.specs.Run.{reached, IsSafe, Recorded, IsReady, ReadyAt, IsLined, StepsTo};
 
 use crate::near::{Near, near_blanks};
 use crate::simple::give_simple;
+use crate::start::Start;
 use crate::tables::Tables;
 use parts::Token;
 use state::State;
 
-// How far a run of simple tokens has come: the place, the mark and the count of line starts there,
-// and how many tokens there are.
+// How far a run of simple tokens has come: the place, and the mark and the count of line starts
+// there.
 #[derive(Clone, Copy)]
 pub(crate) struct Reached {
     pub(crate) place: usize,
     pub(crate) mark: bool,
     pub(crate) lines: usize,
-    pub(crate) count: usize,
 }
 
 // May a token be given after these blanks? It starts before the safe place, and there is room for
@@ -63,7 +62,7 @@ fn record_line(first: State, at: Reached, blanks: Near, table: &mut [usize]) -> 
     at.lines + 1
 }
 
-// Gives the next simple token, if there is one.
+// Gives the next simple token, if there is one, and how far the run has come after it.
 pub(crate) fn next_simple(
     src: &[u8],
     tables: &Tables,
@@ -72,22 +71,23 @@ pub(crate) fn next_simple(
     at: Reached,
     table: &mut [usize],
     list: &[usize],
-    tokens: &mut [usize],
-) -> Option<Reached>
-    requires { (fits (reached first at table.old) src.now table.old list.now ≡ true) × (first.place ≤ at.place) × IsSafe src.now first safe
-        × (at.count * token_width + token_width ≤ length tokens.old) }
-    ensures { StepsTo src.now list.now first at table.old tokens.old result table.new tokens.new }
+) -> Option<(Token, Reached)>
+    requires { (fits (reached first at table.old) src.now table.old list.now ≡ true) × (first.place ≤ at.place) × IsSafe src.now first safe }
+    ensures { StepsTo src.now list.now first at table.old result table.new }
 {
     let blanks = ready_blanks(src, safe, at, table)?;
-    let start = blanks.end;
-    let position = first.base + first.offset + (start - first.place);
-    let to = at.count * Token::NUMBERS;
-    let next = give_simple(src, tables, start, safe, position, tokens, to)?;
+    let start = Start {
+        src,
+        at: blanks.end,
+        safe,
+        position: first.base + first.offset + (blanks.end - first.place),
+    };
+    let next = give_simple(start, tables)?;
     let lines = record_line(first, at, blanks, table);
-    Some(Reached {
+    let reached = Reached {
         place: next.place,
         mark: next.mark,
         lines,
-        count: at.count + 1,
-    })
+    };
+    Some((next.token, reached))
 }

@@ -1,9 +1,9 @@
 // The tables by which simple tokens are told.
 ghost use Rattle.std.specs.Prelude.{◌≡◌};
-ghost use Rattle.kinds.specs.Number.{kind_number};
 ghost use Rattle.keywords.specs.Search.{kind_in};
-ghost use Rattle.batch.specs.Simple.{first_kind, IsTable, keyword_in, IsKeywords};
+ghost use Rattle.batch.specs.Simple.{first_of, IsTable, keyword_in, IsKeywords};
 
+use crate::first::First;
 use kinds::Kind;
 
 // What each first byte tells, and the keywords of at most eight bytes, by number and kind in
@@ -11,7 +11,7 @@ use kinds::Kind;
 // them.)
 #[derive(Drop)]
 pub(crate) struct Tables {
-    firsts: [Kind; 256],
+    firsts: [First; 256],
     keys: [u64; 64],
     values: [u8; 64],
     ghost firsts_told: { IsTable firsts },
@@ -21,15 +21,15 @@ pub(crate) struct Tables {
 impl Tables {
     pub(crate) fn new() -> Self {
         Tables {
-            firsts: first_kinds(),
+            firsts: firsts(),
             keys: keywords::keyword_numbers(),
             values: keywords::keyword_kinds(),
         }
     }
 
     // What a first byte tells.
-    pub(crate) fn first(&self, b: u8) -> Kind
-        ensures { kind_number result ≡ first_kind b }
+    pub(crate) fn first(&self, b: u8) -> First
+        ensures { result ≡ first_of b }
     {
         self.firsts[b as usize]
     }
@@ -42,44 +42,44 @@ impl Tables {
     }
 }
 
-// What each first byte tells: the kind of a delimiter, Ident for a letter, Add for an operator that
-// does not start with a slash, Int for a digit, String for a double quote, else Illegal. (It is
-// filled by stores, since a `match` on each of the 256 bytes would run at each call.)
-fn first_kinds() -> [Kind; 256]
+// What each first byte tells. (The table is filled by stores, since a `match` on each of the 256
+// bytes would run at each call.)
+fn firsts() -> [First; 256]
     ensures { IsTable result }
 {
-    let mut table = [Kind::Illegal; 256];
-    table[b'!' as usize] = Kind::Add;
-    table[b'"' as usize] = Kind::String;
-    table[b'%' as usize] = Kind::Add;
-    table[b'&' as usize] = Kind::Add;
-    table[b'(' as usize] = Kind::Lparen;
-    table[b')' as usize] = Kind::Rparen;
-    table[b'*' as usize] = Kind::Add;
-    table[b'+' as usize] = Kind::Add;
-    table[b',' as usize] = Kind::Comma;
-    table[b'-' as usize] = Kind::Add;
-    table[b'.' as usize] = Kind::Period;
-    table[b':' as usize] = Kind::Add;
-    table[b';' as usize] = Kind::Semicolon;
-    table[b'<' as usize] = Kind::Add;
-    table[b'=' as usize] = Kind::Add;
-    table[b'>' as usize] = Kind::Add;
-    table[b'[' as usize] = Kind::Lbrack;
-    table[b']' as usize] = Kind::Rbrack;
-    table[b'^' as usize] = Kind::Add;
-    table[b'_' as usize] = Kind::Ident;
-    table[b'{' as usize] = Kind::Lbrace;
-    table[b'|' as usize] = Kind::Add;
-    table[b'}' as usize] = Kind::Rbrace;
+    let mut table = [First::Other; 256];
+    table[b'\n' as usize] = First::LineFeed;
+    table[b'!' as usize] = First::Operator;
+    table[b'"' as usize] = First::Quote;
+    table[b'%' as usize] = First::Operator;
+    table[b'&' as usize] = First::Operator;
+    table[b'(' as usize] = First::Delimiter(Kind::Lparen);
+    table[b')' as usize] = First::Delimiter(Kind::Rparen);
+    table[b'*' as usize] = First::Operator;
+    table[b'+' as usize] = First::Operator;
+    table[b',' as usize] = First::Delimiter(Kind::Comma);
+    table[b'-' as usize] = First::Operator;
+    table[b'.' as usize] = First::Point;
+    table[b':' as usize] = First::Operator;
+    table[b';' as usize] = First::Delimiter(Kind::Semicolon);
+    table[b'<' as usize] = First::Operator;
+    table[b'=' as usize] = First::Operator;
+    table[b'>' as usize] = First::Operator;
+    table[b'[' as usize] = First::Delimiter(Kind::Lbrack);
+    table[b']' as usize] = First::Delimiter(Kind::Rbrack);
+    table[b'^' as usize] = First::Operator;
+    table[b'_' as usize] = First::Letter;
+    table[b'{' as usize] = First::Delimiter(Kind::Lbrace);
+    table[b'|' as usize] = First::Operator;
+    table[b'}' as usize] = First::Delimiter(Kind::Rbrace);
     for capital in b'A'..=b'Z' {
-        table[capital as usize] = Kind::Ident;
+        table[capital as usize] = First::Letter;
     }
     for small in b'a'..=b'z' {
-        table[small as usize] = Kind::Ident;
+        table[small as usize] = First::Letter;
     }
     for digit in b'0'..=b'9' {
-        table[digit as usize] = Kind::Int;
+        table[digit as usize] = First::Digit;
     }
     table
 }

@@ -5,7 +5,7 @@ use Rattle.batch.proofs.literal.string.Goals as goal
 
 pub returns : goal.returns
 returns c =
-    let a = c.args in
-    let near = c.if-safe-close.false in
-    gives_string a.src.now a.at c.plain_string-close.result c.requires.2 c.plain_string-close.ensures (omega (arith, near, c.requires.1)) c.if-src-close-ne34.false
-    a.position a.safe a.tokens.now a.to near c.put_string.ensures
+    let a = c.args.start in
+    let near = c.if-start-close.false in
+    gives_string a.src.now a.at c.plain_string-close.result c.requires c.plain_string-close.ensures (omega (arith, near, a.inside)) c.if-start-close-ne34.false
+    a.position a.safe near (rw c.string_token.ensures)

@@ -1,7 +1,6 @@
 -- `simple::operator` meets its contract: there is an operator, as its first byte is one by itself.
 use Prim.Native.Nat.{◌+◌}
 use mathlib.Core.Bool.{false}
-use mathlib.Core.Path.{◌∙◌}
 use native.Mathlib.Nat.{add-zero}
 use native.Mathlib.Omega.{arith}
 use borrow.Author.Tests.{ne_eqb}
@@ -17,19 +16,19 @@ use Rattle.batch.proofs.simple.operator.Goals as goal
 
 pub overflow_add-result : goal.overflow_add-result
 overflow_add-result c =
-    let a = c.args in
-    let starts = operator_first (get_or a.src.now a.at 0) (omega (arith, c.type_inv.src a.at)) c.requires.2 in
+    let a = c.args.start in
+    let starts = operator_first (get_or a.src.now a.at 0) (a.bytes a.at) c.requires in
     omega (arith, operator_within a.src.now a.at c.scan_operator-o.result c.scan_operator-o.ensures starts)
 
 pub returns : goal.returns
 returns c =
-    let a = c.args in
+    let a = c.args.start in
     let o = c.scan_operator-o.result in
     let is = c.scan_operator-o.ensures in
-    let starts = operator_first (get_or a.src.now a.at 0) (omega (arith, c.type_inv.src a.at)) c.requires.2 in
+    let starts = operator_first (get_or a.src.now a.at 0) (a.bytes a.at) c.requires in
     let k = operator_kind a.src.now a.at o is starts in
-    gives_plain a.src.now a.at a.safe a.position a.tokens.now a.to o.kind (a.at + o.len) o.len false (sets_mark (kind_number o.kind)) Empty 0
+    gives_plain a.src.now a.at a.safe a.position o.kind (a.at + o.len) o.len false (sets_mark (kind_number o.kind)) Empty 0
     (operator_reads a.src.now a.at o is starts) (omega arith)
     (ne_eqb (kind_number o.kind) EOF k.1) (ne_eqb (kind_number o.kind) STRING k.2)
-    (omega (arith, operator_three a.src.now a.at o is starts, c.requires.0)) (rw (c.sets_mark.ensures, kind_tag o.kind))
-    ((rw (kind_tag o.kind) at c.put_shown.ensures) ∙ rw (add-zero a.at))
+    (omega (arith, operator_three a.src.now a.at o is starts, a.early))
+    (rw (add-zero a.at, c.simple_token.ensures, c.sets_mark.ensures, kind_tag o.kind))

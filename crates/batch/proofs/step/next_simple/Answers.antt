@@ -1,6 +1,5 @@
 -- `step::next_simple` meets its contract: a token that is given is one step of the run.
 use Prim.Native.Nat.{◌+◌, ◌-◌, ◌<◌, ◌^◌}
-use mathlib.Core.Path.{refl}
 use native.Mathlib.Omega.{arith}
 use Rattle.batch.proofs.Runs.{position_small, safe_inside, is_lined, steps}
 use Rattle.batch.proofs.step.next_simple.Goals as goal
@@ -14,18 +13,21 @@ small c =
     let e = c.in_ok-blanks.ensures in
     position_small a.src.now a.first a.safe p.2 a.table.now a.list.now a.at p.1 p.0 c.in_ok-blanks.blanks e.0 e.1.0
 
-pub overflow_add-position : goal.overflow_add-position
-overflow_add-position c = omega (arith, small (goal.at.overflow_add-position c).In_ok-blanks)
+pub overflow_add-start : goal.overflow_add-start
+overflow_add-start c = omega (arith, small (goal.at.overflow_add-start c).In_ok-blanks)
 
-pub overflow_add-position-2 : goal.overflow_add-position-2
-overflow_add-position-2 c = omega (arith, small (goal.at.overflow_add-position-2 c).In_ok-blanks)
+pub overflow_add-start-2 : goal.overflow_add-start-2
+overflow_add-start-2 c = omega (arith, small (goal.at.overflow_add-start-2 c).In_ok-blanks)
 
-pub give_simple-requires : goal.give_simple-requires
-give_simple-requires c =
+pub invariant_of-start-clause-inside : goal.invariant_of-start-clause-inside
+invariant_of-start-clause-inside c =
     let a = c.args in
     let p = c.requires in
     let e = c.in_ok-blanks.ensures in
-    (e.1.0, safe_inside a.src.now a.first a.safe p.2 a.table.now a.list.now a.at p.1 p.0 c.in_ok-blanks.blanks e.0 e.1.0, p.3)
+    safe_inside a.src.now a.first a.safe p.2 a.table.now a.list.now a.at p.1 p.0 c.in_ok-blanks.blanks e.0 e.1.0
+
+pub invariant_of-start-clause-bytes : goal.invariant_of-start-clause-bytes
+invariant_of-start-clause-bytes c = λ p. (c.type_inv.src p).fits
 
 pub record_line-lines-requires : goal.record_line-lines-requires
 record_line-lines-requires c =
@@ -40,4 +42,4 @@ returns c =
     let p = c.requires in
     let e = c.in_ok-blanks.ensures in
     let w = c.record_line-lines.ensures in
-    steps a.src.now a.first a.safe p.2 a.table.now a.list.now a.at p.1 p.0 c.in_ok-blanks.blanks e.0 e.1.0 c.in_ok-next.ensures w.0 c.record_line-lines.result refl w.1
+    steps a.src.now a.first a.safe p.2 a.table.now a.list.now a.at p.1 p.0 c.in_ok-blanks.blanks e.0 e.1.0 c.in_ok-next.ensures w.0 c.record_line-lines.result w.1

@@ -2,7 +2,7 @@
 use Prim.Native.Nat.{◌-◌, ◌≤◌}
 use mathlib.Core.Path.{◌≡◌}
 use Rattle.batch.proofs.Firsts.{capitals, smalls, digits}
-use Rattle.batch.proofs.tables.first_kinds.Given as goal
+use Rattle.batch.proofs.tables.firsts.Given as goal
 
 abbrev pub invariant-loop-capital : goal.invariant-loop-capital
 invariant-loop-capital l = (65 ≤ l.capital) × (l.capital ≤ 91) × (l.table ≡ capitals (l.capital - 65))

@@ -1,10 +1,10 @@
--- `tables::first_kinds` meets its contract: the table at the loops' end is computed.
+-- `tables::firsts` meets its contract: the table at the loops' end is computed.
 use Prim.Native.Nat.{◌-◌}
 use mathlib.Core.Path.{◌≡◌, refl, ap, ◌∙◌}
 use native.Mathlib.Omega.{arith}
-use Rattle.kinds.specs.declared.kind.Kind.TheVariants.{Ident, Int}
+use Rattle.batch.specs.declared.first.First.TheVariants.{Letter, Digit}
 use Rattle.batch.proofs.Firsts.{marks, told, capitals, smalls, digits, is_table, more}
-use Rattle.batch.proofs.tables.first_kinds.Goals as goal
+use Rattle.batch.proofs.tables.firsts.Goals as goal
 
 pub loop-capital-init : goal.loop-capital-init
 unfolding told marks
@@ -13,7 +13,7 @@ loop-capital-init c = (omega arith, omega arith, refl)
 pub loop-capital-preserved : goal.loop-capital-preserved
 loop-capital-preserved c =
     let l = c.loop-capital in
-    (omega (arith, l.invariant.0), omega (arith, c.loop-capital-test.true), rw l.invariant.2 (more 65 Ident marks l.capital l.invariant.0))
+    (omega (arith, l.invariant.0), omega (arith, c.loop-capital-test.true), rw l.invariant.2 (more 65 Letter marks l.capital l.invariant.0))
 
 pub loop-small-init : goal.loop-small-init
 unfolding told
@@ -25,7 +25,7 @@ loop-small-init c =
 pub loop-small-preserved : goal.loop-small-preserved
 loop-small-preserved c =
     let l = c.loop-small in
-    (omega (arith, l.invariant.0), omega (arith, c.loop-small-test.true), rw l.invariant.2 (more 97 Ident (capitals 26) l.small l.invariant.0))
+    (omega (arith, l.invariant.0), omega (arith, c.loop-small-test.true), rw l.invariant.2 (more 97 Letter (capitals 26) l.small l.invariant.0))
 
 pub loop-digit-init : goal.loop-digit-init
 unfolding told
@@ -37,7 +37,7 @@ loop-digit-init c =
 pub loop-digit-preserved : goal.loop-digit-preserved
 loop-digit-preserved c =
     let l = c.loop-digit in
-    (omega (arith, l.invariant.0), omega (arith, c.loop-digit-test.true), rw l.invariant.2 (more 48 Int (smalls 26) l.digit l.invariant.0))
+    (omega (arith, l.invariant.0), omega (arith, c.loop-digit-test.true), rw l.invariant.2 (more 48 Digit (smalls 26) l.digit l.invariant.0))
 
 pub returns : goal.returns
 returns c =
