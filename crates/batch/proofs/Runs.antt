@@ -32,6 +32,7 @@ use Rattle.scanner.specs.Steps.{Reads}
 use Rattle.batch.specs.Run.{state_at, reached, start_at, IsSafe, Recorded, IsLined, StepsTo}
 use Rattle.scanner.proofs.Scans.{held, scan_kept}
 use Rattle.scanner.proofs.Fitting.{fits_after}
+use Rattle.batch.proofs.Spaces.{line_skipped}
 use Rattle.batch.proofs.Given.{left_more}
 use Rattle.scanner.proofs.LineStarts.{skip_line_within}
 use Rattle.batch.proofs.SimpleScans.{gave, end_over, token, next, scans, goes_on}
@@ -94,7 +95,7 @@ module _ (src : List ℕ) (first : State) (safe : ℕ) (is-safe : IsSafe src fir
   line_between : (at.place ≤ line_from at.place b.line) × (line_from at.place b.line ≤ b.end)
   line_between =
       let e = ap (λ (k : Skipped). k.end) near in
-      let l = ap (λ (k : Skipped). k.line) near in
+      let l = ap (λ (k : Skipped). line_from at.place k.line) near ∙ line_skipped at.place (skip at.mark (chars (drop at.place src))) in
       let w = skip_line_within at.mark (chars (drop at.place src)) in
       (omega (arith, l), omega (arith, e, l, w))
 

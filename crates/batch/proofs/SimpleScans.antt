@@ -24,7 +24,9 @@ use Rattle.parts.specs.declared.token.Token.{Token}
 use Rattle.scanner.specs.Scan.{Answer, ScanLeft, scan_of}
 use Rattle.scanner.specs.Steps.{Reads, to_write, is_plain, refusal_by, state_by, token_by, starts_from}
 use Rattle.batch.specs.Many.{is_last}
+use Rattle.batch.specs.Near.{line_from}
 use Rattle.batch.specs.Run.{state_at, Recorded}
+use Rattle.batch.proofs.Spaces.{line_skipped}
 use Rattle.scanner.proofs.Refusals.{refusal_none, list_none}
 use Rattle.scanner.proofs.Pass.{left, start_behind, read, read_bound, end_behind, feeds_read, starts_feeds, sets_none}
 use Rattle.scanner.proofs.Scans.{Held, held, scan_gave}
@@ -42,7 +44,7 @@ module _ (s : State) (b : Skipped) (table table' : List ℕ) where
 
   pub recorded_length : Recorded s b table table' → length table' ≡ length table
   recorded_length (inl w) = ap length w.1
-  recorded_length (inr w) = ap length w.2 ∙ length-set table s.lines (s.offset + (b.line - s.place))
+  recorded_length (inr w) = ap length w.2 ∙ length-set table s.lines (s.offset + (line_from s.place b.line - s.place))
 
 -- ---- a plain token of ASCII characters without a line feed, after its blanks
 module _ (src : List ℕ) (s : State) (table list : List ℕ) (b : Skipped) (x : Lexed) (holds : fits s src table list ≡ true) (r : Reads src s b x)
@@ -62,8 +64,8 @@ module _ (src : List ℕ) (s : State) (table list : List ℕ) (b : Skipped) (x :
   feeds_at : b.lfs ≡ (skip s.mark (left src s start)).lfs
   feeds_at = ap (λ (k : Skipped). k.lfs) r.skipped
 
-  line_at : b.line ≡ s.place + (skip s.mark (left src s start)).line
-  line_at = ap (λ (k : Skipped). k.line) r.skipped
+  line_at : line_from s.place b.line ≡ s.place + (skip s.mark (left src s start)).line
+  line_at = ap (λ (k : Skipped). line_from s.place k.line) r.skipped ∙ line_skipped s.place (skip s.mark (left src s start))
 
   abbrev here : ℕ
   here = read src s start start_at x r.token
@@ -94,9 +96,9 @@ module _ (src : List ℕ) (s : State) (table list : List ℕ) (b : Skipped) (x :
         inside
 
     -- one line feed among them starts the line after it
-    one_start : b.lfs ≡ 1 → starts_from src s here ≡ (s.offset + (b.line - s.place)) ∷ []
+    one_start : b.lfs ≡ 1 → starts_from src s here ≡ (s.offset + (line_from s.place b.line - s.place)) ∷ []
     one_start f =
-        let k : (skip s.mark (left src s start)).line ≡ b.line - s.place = omega (arith, line_at) in
+        let k : (skip s.mark (left src s start)).line ≡ line_from s.place b.line - s.place = omega (arith, line_at) in
         starts_one src s start start_at x r.token feeds (sym feeds_at ∙ f) inside ∙ ap (λ n. (s.offset + n) ∷ []) k
 
     module _ {table' : List ℕ} (w : Recorded s b table table') where

@@ -25,7 +25,7 @@ line_from at (Some line) = line
 
 -- the blanks at a place that it says
 abbrev pub near_as : ℕ → Near → Skipped
-near_as at r = record { end = r.end; lfs = feeds_of r.line; line = line_from at r.line }
+near_as at r = record { end = r.end; lfs = feeds_of r.line; line = r.line }
 
 -- where they are found, they are all blanks at the place
 abbrev pub NearAt : List ℕ → ℕ → Bool → Option Near → Type 0

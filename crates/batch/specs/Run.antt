@@ -18,7 +18,7 @@ use Rattle.scanner.specs.Scan.{scan_of}
 use Rattle.batch.specs.declared.step.Reached.{Reached}
 use Rattle.batch.specs.declared.near.Near.{Near}
 use Rattle.batch.specs.declared.run.Batch.{Batch}
-use Rattle.batch.specs.Near.{near_as}
+use Rattle.batch.specs.Near.{line_from, near_as}
 use Rattle.batch.specs.Many.{stopped, many_of, token_room, left_after}
 
 -- there is room for a token after so many
@@ -46,7 +46,7 @@ IsSafe src s safe = (p : ℕ) → p < safe → (p + 16 < length src) × (p + 16 
 -- what is written after blanks: nothing, or after one line feed where the next line starts
 abbrev pub Recorded : State → Skipped → List ℕ → List ℕ → Type 0
 Recorded s b table table' =
-    ((b.lfs ≤ 0) × (table' ≡ table)) ⊎ ((b.lfs ≡ 1) × (s.lines < length table) × (table' ≡ set table s.lines (s.offset + (b.line - s.place))))
+    ((b.lfs ≤ 0) × (table' ≡ table)) ⊎ ((b.lfs ≡ 1) × (s.lines < length table) × (table' ≡ set table s.lines (s.offset + (line_from s.place b.line - s.place))))
 
 -- such blanks end before the safe place, and there is room for their line start
 abbrev pub IsReady : Near → ℕ → ℕ → List ℕ → Type 0

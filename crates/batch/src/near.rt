@@ -39,9 +39,7 @@ fn line_feed(src: &[u8], at: usize, p: usize, mark: bool) -> Option<Near>
         return Some(Near { end: p, line: None });
     }
     let line = p + 1;
-    // (blanks counts tabs so too, in a function that no other crate is to call.)
-    let tabs = u64::trailing_zeros(swar::eight(src, line) ^ 0x0909_0909_0909_0909) as usize / 8;
-    let end = line + tabs;
+    let end = line + swar::run_of(src, line, b'\t');
     if src[end] <= b' ' {
         return None;
     }
