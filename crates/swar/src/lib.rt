@@ -93,7 +93,8 @@ pub fn before_mark(marks: u64) -> usize
     u64::trailing_zeros(marks) as usize / 8
 }
 
-// How many of the next eight bytes are the one given, before the first other.
+// How many of the next eight bytes are the one given, before the first other. (After its end a text
+// is taken to have zeros.)
 pub fn run_of(s: &[u8], at: usize, byte: u8) -> usize
     ensures { RunOf byte s.now at result }
 {

@@ -1,33 +1,12 @@
-use Prim.Native.Nat.{◌+◌, ◌≤◌}
-use mathlib.Core.Path.{◌≡◌, sym, ◌∙◌}
+use mathlib.Core.Path.{◌≡◌, ◌∙◌}
 use native.Mathlib.Omega.{arith}
-use borrow.Author.Tests.{leb-true}
-use lib.ListN.{length, drop}
+use lib.ListN.{drop}
 use Rattle.quotes.specs.Plain.{plain_len}
 use Rattle.quotes.specs.Steps.{quote_code}
 use Rattle.quotes.proofs.PlainRuns.{plain_left, plain_reach}
 use Rattle.quotes.proofs.Stops.{run_skip}
 use Rattle.quotes.proofs.plain.plain_end.Goals as goal
 use Rattle.quotes.proofs.plain.plain_end.Goals.{After-plain_run, In-loop-n}
-
-inside : (c : In-loop-n) → c.loop-n.p + 8 ≤ length c.args.src.now
-inside c =
-    leb-true (c.loop-n.p + 8) (length c.args.src.now) (sym c.has_eight.ensures ∙ c.loop-n-test.true)
-
-pub plain_at-n-requires : goal.plain_at-n-requires
-plain_at-n-requires c = inside (goal.at.plain_at-n-requires c).In-loop-n
-
-pub overflow_add-result : goal.overflow_add-result
-overflow_add-result c = omega (arith, inside (goal.at.overflow_add-result c).In-loop-n)
-
-pub returns-then-n-lt8 : goal.returns-then-n-lt8
-returns-then-n-lt8 c = omega (arith, c.loop-n.invariant, c.plain_at-n.ensures)
-
-pub overflow_add-p : goal.overflow_add-p
-overflow_add-p c = omega (arith, inside (goal.at.overflow_add-p c).In-loop-n)
-
-pub loop-n-smaller : goal.loop-n-smaller
-loop-n-smaller c = omega (arith, inside (goal.at.loop-n-smaller c).In-loop-n)
 
 pub loop-n-preserved : goal.loop-n-preserved
 loop-n-preserved c =

@@ -21,24 +21,12 @@ found : (c : Then-is_block)
     → PlainRun (code "*") c.args.src.now c.loop-body.body.end 16
 found c = block_true _ _ _ (sym c.is_block.ensures ∙ c.if-is_block.true)
 
-pub overflow_add-body : goal.overflow_add-body
-overflow_add-body c = omega (arith, (found (goal.at.overflow_add-body c).Then-is_block).fits)
-
-pub overflow_add-body-then-is_block : goal.overflow_add-body-then-is_block
-overflow_add-body-then-is_block c = let i = c.loop-body.invariant.counted in omega (arith, (found (goal.at.overflow_add-body-then-is_block c).Then-is_block).fits)
-
-pub loop-body-smaller-then-is_block : goal.loop-body-smaller-then-is_block
-loop-body-smaller-then-is_block c = omega (arith, (found (goal.at.loop-body-smaller-then-is_block c).Then-is_block).fits)
-
 pub loop-body-preserved-then-is_block : goal.loop-body-preserved-then-is_block
 loop-body-preserved-then-is_block c =
     let a = c.args in
     let s = a.src.now in
     part_plain _ (to_star_slash c.loop-body.star) (code "*") s (slash_on c.loop-body.star (not-true _ (and_split _ _ c.if-star-tried.true).0) s)
     16 c.loop-body.body (found (goal.at.loop-body-preserved-then-is_block c).Then-is_block) c.loop-body.invariant
-
-pub grow-body-requires : goal.grow-body-requires
-grow-body-requires c = (c.loop-body-test.true, c.loop-body.invariant.counted)
 
 pub returns-then-closes : goal.returns-then-closes
 returns-then-closes c =

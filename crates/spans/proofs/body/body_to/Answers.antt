@@ -20,27 +20,12 @@ found : (c : Then-is_block)
     PlainRun a.stop a.src.now c.loop-body.body.end 16
 found c = block_true _ _ _ (sym c.is_block.ensures ∙ c.if-is_block.true)
 
-pub overflow_add-body : goal.overflow_add-body
-overflow_add-body c = omega (arith, (found (goal.at.overflow_add-body c).Then-is_block).fits)
-
-pub overflow_add-body-then-is_block : goal.overflow_add-body-then-is_block
-overflow_add-body-then-is_block c = let i = c.loop-body.invariant.counted in omega (arith, (found (goal.at.overflow_add-body-then-is_block c).Then-is_block).fits)
-
-pub loop-body-smaller-then-is_block : goal.loop-body-smaller-then-is_block
-loop-body-smaller-then-is_block c = omega (arith, (found (goal.at.loop-body-smaller-then-is_block c).Then-is_block).fits)
-
 pub loop-body-preserved-then-is_block : goal.loop-body-preserved-then-is_block
 loop-body-preserved-then-is_block c =
     let a = c.args in
     let s = a.src.now in
     part_plain _ (to_stop a.stop) a.stop s (λ p h e r. stop_more s p h r a.stop c.requires e)
     16 c.loop-body.body (found (goal.at.loop-body-preserved-then-is_block c).Then-is_block) c.loop-body.invariant
-
-pub overflow_add-body-in-loop-body : goal.overflow_add-body-in-loop-body
-overflow_add-body-in-loop-body c = omega (arith, c.run_len-n.ensures.0.fits)
-
-pub overflow_add-body-in-loop-body-2 : goal.overflow_add-body-in-loop-body-2
-overflow_add-body-in-loop-body-2 c = let i = c.loop-body.invariant.counted in omega (arith, c.run_len-n.ensures.0.fits)
 
 -- after the run that was found the whole is the same
 after_run : (c : After-run_len-n)
@@ -51,15 +36,6 @@ after_run c =
     let s = a.src.now in
     part_plain _ (to_stop a.stop) a.stop s (λ p h e r. stop_more s p h r a.stop c.requires e)
     c.run_len-n.result c.loop-body.body c.run_len-n.ensures.0 c.loop-body.invariant
-
-pub overflow_add-closes : goal.overflow_add-closes
-overflow_add-closes c = omega (arith, c.run_len-n.ensures.0.fits)
-
-pub bounds-src-p : goal.bounds-src-p
-bounds-src-p c = c.run_len-n.ensures.1 c.if-n-lt8.true
-
-pub grow-body-requires : goal.grow-body-requires
-grow-body-requires c = (c.run_len-n.ensures.1 c.if-n-lt8.true, (after_run (goal.at.grow-body-requires c).After-run_len-n).counted)
 
 pub returns-then-closes : goal.returns-then-closes
 returns-then-closes c =
@@ -79,9 +55,6 @@ loop-body-preserved-else-closes c =
     part_next _ _ _ _ (after_run (goal.at.loop-body-preserved-else-closes c).After-run_len-n) more _ _ c.grow-body.ensures e
     (to_stop c.args.stop)
     (λ r. stop_more _ _ more r _ c.requires e)
-
-pub loop-body-smaller : goal.loop-body-smaller
-loop-body-smaller c = omega (arith, c.run_len-n.ensures.0.fits)
 
 pub loop-body-preserved : goal.loop-body-preserved
 loop-body-preserved c = after_run (goal.at.loop-body-preserved c).After-run_len-n

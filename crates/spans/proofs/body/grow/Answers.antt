@@ -1,25 +1,11 @@
 -- `spans::body::grow` meets its contract: by whether the byte is ASCII.
-use Prim.Native.Char.{code}
 use mathlib.Core.Path.{ap, ◌∙◌}
 use native.Mathlib.Omega.{arith}
-use lib.Dec.{eqb}
-use lib.ListN.{get_or}
 use Rattle.utf8.proofs.First.{there_fits}
 use Rattle.utf8.specs.Count.{one}
-use Rattle.utf8.proofs.Count.{le_one}
 use Rattle.spans.proofs.Counts.{byte_one}
 use Rattle.spans.proofs.Bodies.{grown_ascii, grown_wide}
 use Rattle.spans.proofs.body.grow.Goals as goal
-
-pub overflow_add-lfs : goal.overflow_add-lfs
-overflow_add-lfs c =
-    let a = c.args in
-    omega (arith, le_one _ (eqb (get_or a.src.now a.body.end 0) (code "\n")) (c.from.ensures ∙ byte_one _))
-
-pub overflow_add-crs : goal.overflow_add-crs
-overflow_add-crs c =
-    let a = c.args in
-    omega (arith, le_one _ (eqb (get_or a.src.now a.body.end 0) (code "\r")) (c.from-then-b-lt128.ensures ∙ byte_one _))
 
 pub returns-then-b-lt128 : goal.returns-then-b-lt128
 returns-then-b-lt128 c =
@@ -29,9 +15,6 @@ pub overflow_add-end-2 : goal.overflow_add-end-2
 overflow_add-end-2 c =
     let r = c.char_at-c in
     omega (arith, there_fits _ _ r.result c.requires.0 r.ensures)
-
-pub overflow_add-strays : goal.overflow_add-strays
-overflow_add-strays c = omega (arith, le_one _ c.is_stray.result (c.from-2.ensures ∙ byte_one _))
 
 pub returns : goal.returns
 returns c =

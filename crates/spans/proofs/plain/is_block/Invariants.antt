@@ -1,12 +1,8 @@
 -- `spans::plain::is_block` meets its contract. The loop's invariant: `any` says whether one of the bytes so far is special.
-use Prim.Native.Nat.{◌+◌, ◌-◌, ◌≤◌}
 use mathlib.Core.Path.{◌≡◌}
-use lib.ListN.{length, take, drop}
+use lib.ListN.{take, drop}
 use Rattle.spans.specs.Plain.{any_special}
 use Rattle.spans.proofs.plain.is_block.Given as goal
 
 abbrev pub invariant-loop-k : goal.invariant-loop-k
-invariant-loop-k l = (l.k ≤ 16) × (l.at + 16 ≤ length l.src) × (l.any ≡ any_special l.stop (take l.k (drop l.at l.src)))
-
-abbrev pub decreases-loop-k : goal.decreases-loop-k
-decreases-loop-k l = 16 - l.k
+invariant-loop-k l = l.any ≡ any_special l.stop (take l.k (drop l.at l.src))

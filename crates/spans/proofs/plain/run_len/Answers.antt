@@ -2,11 +2,8 @@
 use mathlib.Core.Path.{sym, ◌∙◌}
 use native.Mathlib.Omega.{arith}
 use borrow.Author.Tests.{leb-true}
-use Rattle.spans.proofs.Marks.{run_none, run_of_eight}
+use Rattle.spans.proofs.Marks.{run_of_eight}
 use Rattle.spans.proofs.plain.run_len.Goals as goal
-
-pub returns-then-not-has_eight : goal.returns-then-not-has_eight
-returns-then-not-has_eight c = (run_none _ _ _ (omega arith), λ h. omega arith)
 
 pub returns : goal.returns
 returns c =
