@@ -3,7 +3,7 @@ use Prim.Native.Nat.{ℕ, zero, suc, ◌+◌, ◌≤◌, ◌<◌}
 use mathlib.Core.Path.{◌≡◌, refl, sym, ap, ◌∙◌}
 use mathlib.Core.Bool.{Bool, true, false, cond, not, ◌&&◌, ◌||◌}
 use mathlib.Core.List.{List, ◌∷◌}
-use mathlib.Core.Logic.{◌≢◌, ◌⊎◌, inl, inr, ⊎_elim}
+use mathlib.Core.Logic.{◌≢◌, ⊎_elim}
 use native.Mathlib.Omega.{arith}
 use native.Mathlib.Decide.{dec_lt}
 use lib.Dec.{eqb, lit<}
@@ -195,17 +195,6 @@ module _ (mark : Bool) (s : List ℕ) (at : ℕ) (h : at < length s) where
           (λ (u : eqb (get_or s at 0) 47 ≡ true). let e = eqb-true (get_or s at 0) 47 u in rw (t, u, slash_bytes e, next, rw u at no-comment))
           (λ (u : eqb (get_or s at 0) 47 ≡ false). rw (t, u)) (either (eqb (get_or s at 0) 47)))
           (either (eqb (get_or s at 0) 46))
-
--- ---- what the tests say
-one_of : (a b : Bool) → a || b ≡ true → (a ≡ true) ⊎ (b ≡ true)
-one_of true b e = inl refl
-one_of false b e = inr e
-
--- a slash before a slash or a star
-pub slashes : (first second : ℕ) → eqb first 47 && (eqb second 47 || eqb second 42) ≡ true → (first ≡ 47) × ((second ≡ 47) ⊎ (second ≡ 42))
-slashes first second t =
-    let q = and_split (eqb first 47) (eqb second 47 || eqb second 42) t in
-    (eqb-true first 47 q.0, ⊎_elim (λ e. inl (eqb-true second 47 e)) (λ e. inr (eqb-true second 42 e)) (one_of (eqb second 47) (eqb second 42) q.1))
 
 -- ---- two points are ASCII
 two_points : (c d : Char) (r : List Char) → c.code ≡ 46 → d.code ≡ 46 → Ascii 2 (c ∷ d ∷ r)

@@ -6,7 +6,7 @@ use mathlib.Core.List.{List, [], ◌∷◌, ◌++◌}
 use native.Mathlib.Nat.{add-zero, zero-add}
 use native.Mathlib.Omega.{arith}
 use lib.ListN.{length, take, drop, set}
-use lib.Seq.{sets, sets-eq, length-sets}
+use lib.Seq.{sets, sets-eq}
 use Rattle.utf8.specs.Chars.{chars}
 use Rattle.lexer.specs.declared.lexed.Text.{Text}
 use Rattle.lexer.specs.declared.lexed.Value.{Value}
@@ -14,13 +14,13 @@ use Rattle.lexer.specs.declared.lexed.Lexed.{Lexed}
 use Rattle.lexer.specs.Placed.{text_of, value_of, said}
 use Rattle.scanner.specs.Scan.{written, to_area}
 
--- text and value by the way of making them
-module _ (src : List ℕ) (start : ℕ) (x : Lexed) where
-  pub said_text : {t : Text} → x.text.making ≡ t → text_of t (take x.chars (chars (drop start src))) (take (x.end - start) (drop start src)) ≡ (said src start x).lexeme.text
+-- text and value by the way of making them, as they are written
+module _ (src : List ℕ) (start : ℕ) (x : Lexed) (area : List ℕ) (to : ℕ) where
+  pub said_text : {t : Text} → x.text.making ≡ t → sets area to (text_of t (take x.chars (chars (drop start src))) (take (x.end - start) (drop start src))) ≡ sets area to (said src start x).lexeme.text
   unfolding said
   said_text e = rw e
 
-  pub said_value : {v : Value} → x.value.making ≡ v → value_of v (chars (drop (start + 1) src)) ≡ (said src start x).lexeme.value
+  pub said_value : {v : Value} → x.value.making ≡ v → sets area to (value_of v (chars (drop (start + 1) src))) ≡ sets area to (said src start x).lexeme.value
   unfolding said
   said_value e = rw e
 
@@ -43,9 +43,6 @@ text_written area text d e n = rw d (e, n)
 
 pub text_none : (area text : List ℕ) {differs : Bool} {after : List ℕ} {to : ℕ} → differs ≡ false → after ≡ area → to ≡ 0 → TextWritten area text differs after to
 text_none area text d e n = rw d (e, n)
-
-pub text_keeps : (area text : List ℕ) (differs : Bool) {after : List ℕ} {to : ℕ} → TextWritten area text differs after to → length after ≡ length area
-text_keeps area text differs w = ap length w.0 ∙ length-sets area 0 (cond differs text [])
 
 -- both parts, each written or not
 both : (area one two : List ℕ) {mid : List ℕ} {to : ℕ} → mid ≡ sets area 0 one → to ≡ length one → length (one ++ two) ≤ length area → sets mid to two ≡ written (one ++ two) area

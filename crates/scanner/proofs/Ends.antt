@@ -2,7 +2,7 @@
 use Prim.Native.Nat.{ℕ, zero, suc, ◌+◌, ◌-◌, ◌≤◌, ◌<◌}
 use mathlib.Core.Path.{◌≡◌, refl, sym, ap, ◌∙◌}
 use mathlib.Core.Bool.{Bool, true, false, cond, false≢true}
-use mathlib.Core.List.{List, [], ◌∷◌, ◌++◌, append-nil}
+use mathlib.Core.List.{List, [], ◌∷◌, ◌++◌}
 use mathlib.Core.Logic.{◌⊎◌, inl, inr, ⊎_elim}
 use native.Mathlib.Omega.{arith}
 use native.Mathlib.Decide.{dec_lt}
@@ -165,8 +165,5 @@ module _ (src : List ℕ) (s : State) (start : ℕ) (at : start ≡ s.place + (s
 
 -- ---- what is written: the starts of the blanks, and the one after the token
 module _ (table : List ℕ) (lines : ℕ) (xs : List ℕ) {mid : List ℕ} (e : mid ≡ sets table lines xs) (x : Lexed) (offset : ℕ) where
-  pub end_none : x.lfs ≤ 0 → mid ≡ sets table lines (xs ++ start_after x offset)
-  end_none h = rw (eq-eqb x.lfs 0 (omega arith), append-nil xs) e
-
   pub end_one : {lfs : ℕ} → lfs ≡ length xs → 0 < x.lfs → set mid (lines + lfs) offset ≡ sets table lines (xs ++ start_after x offset)
   end_one n h = rw (ne_eqb x.lfs 0 (omega arith), n, e) (sym (sets_append table lines xs (offset ∷ [])))

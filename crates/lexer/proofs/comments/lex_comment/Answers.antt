@@ -33,9 +33,6 @@ returns-then-ends_line c =
     (comment_inserted c.args.src.now c.args.at 42 (omega arith) (omega arith) c.requires.0 (star (goal.at.returns-then-ends_line c).Else-second-eq47) c.args.mark
     (rw c.if-mark-2.true (sym c.ends_line.ensures ∙ c.if-ends_line.true)))
 
-pub general_comment-requires : goal.general_comment-requires
-general_comment-requires c = (c.requires.0, star (goal.at.general_comment-requires c).Else-second-eq47)
-
 -- with no mark, or where the comment does not end its line
 pub returns : goal.returns
 returns c =

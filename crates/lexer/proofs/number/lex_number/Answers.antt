@@ -4,9 +4,6 @@ use native.Mathlib.Omega.{arith}
 use Rattle.lexer.proofs.Numerals.{gained_most, number_end, numeral_said}
 use Rattle.lexer.proofs.number.lex_number.Goals as goal
 
-pub overflow_sub-chars : goal.overflow_sub-chars
-overflow_sub-chars c = omega (arith, ap (λ x. x.end) c.scan_number-n.ensures)
-
 pub overflow_add-text : goal.overflow_add-text
 overflow_add-text c =
     let n = c.scan_number-n in

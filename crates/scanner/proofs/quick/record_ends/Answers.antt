@@ -1,13 +1,12 @@
 -- `quick::record_ends` meets its contract: what the blanks record, and what the token does after it.
 use Prim.Native.Nat.{ℕ, ◌-◌}
-use mathlib.Core.Path.{◌≡◌, ap, ◌∙◌}
+use mathlib.Core.Path.{◌≡◌, ◌∙◌}
 use mathlib.Core.List.{List}
 use native.Mathlib.Omega.{arith}
-use lib.ListN.{length, length-set}
-use lib.Seq.{sets, length-sets}
+use lib.Seq.{sets}
 use Rattle.scanner.specs.Steps.{starts_from}
 use Rattle.scanner.proofs.Pass.{sets_none}
-use Rattle.scanner.proofs.Ends.{end_none, end_one}
+use Rattle.scanner.proofs.Ends.{end_one}
 use Rattle.scanner.proofs.quick.record_ends.Goals as goal
 use Rattle.scanner.proofs.quick.record_ends.Goals.{Joined-blanks-gt0, else-blanks-gt0, then-blanks-gt0}
 
@@ -23,23 +22,6 @@ blanks : (c : Joined-blanks-gt0)
 blanks c =
     elim c.if-blanks-gt0.branch [ then-blanks-gt0 w ↦ w.table-is ∙ w.write_starts.ensures | else-blanks-gt0 w ↦ w.table-is ∙ sets_none c.args.table.now c.args.state.lines (starts c) (omega (arith, w.if-blanks-gt0.false, c.requires.1)) ]
 
-blanks_length : (c : Joined-blanks-gt0) → length c.if-blanks-gt0.table ≡ length c.args.table.now
-blanks_length c = ap length (blanks c) ∙ simp length-sets
-
-pub bounds-table-state : goal.bounds-table-state
-bounds-table-state c =
-    omega (arith, blanks_length (goal.at.bounds-table-state c).Joined-blanks-gt0, c.requires.2, c.if-pass-gt0.true)
-
-pub shape_of-table-then-pass-gt0 : goal.shape_of-table-then-pass-gt0
-shape_of-table-then-pass-gt0 c = simp length-set (blanks_length (goal.at.shape_of-table-then-pass-gt0 c).Joined-blanks-gt0)
-
 pub returns-then-pass-gt0 : goal.returns-then-pass-gt0
 returns-then-pass-gt0 c =
     end_one c.args.table.now c.args.state.lines (starts (goal.at.returns-then-pass-gt0 c).Joined-blanks-gt0) (blanks (goal.at.returns-then-pass-gt0 c).Joined-blanks-gt0) c.args.pass.token c.args.offset c.requires.1 c.if-pass-gt0.true
-
-pub shape_of-table-else-pass-gt0 : goal.shape_of-table-else-pass-gt0
-shape_of-table-else-pass-gt0 c = blanks_length (goal.at.shape_of-table-else-pass-gt0 c).Joined-blanks-gt0
-
-pub returns-else-pass-gt0 : goal.returns-else-pass-gt0
-returns-else-pass-gt0 c =
-    end_none c.args.table.now c.args.state.lines (starts (goal.at.returns-else-pass-gt0 c).Joined-blanks-gt0) (blanks (goal.at.returns-else-pass-gt0 c).Joined-blanks-gt0) c.args.pass.token c.args.offset c.if-pass-gt0.false

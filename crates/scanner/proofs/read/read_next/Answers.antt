@@ -6,16 +6,13 @@ use lib.ListN.{drop}
 use Rattle.utf8.specs.Chars.{chars}
 use Rattle.blanks.specs.declared.Skipped.{Skipped}
 use Rattle.blanks.specs.Blank.{skip}
-use Rattle.scanner.proofs.Pass.{start_behind, read_fits}
+use Rattle.scanner.proofs.Pass.{read_fits}
 use Rattle.scanner.proofs.read.read_next.Goals as goal
 use Rattle.scanner.proofs.read.read_next.Goals.{After-lex_token-token}
 
 -- the token was lexed after the blanks
 start_at : (s : After-lex_token-token) → let a = s.args in s.skip_blanks-blanks.result.end ≡ a.state.place + (skip a.state.mark (chars (drop a.state.place a.src.now))).len
 start_at s = ap (λ (b : Skipped). b.end) s.skip_blanks-blanks.ensures
-
-pub overflow_sub-chars : goal.overflow_sub-chars
-overflow_sub-chars c = start_behind c.args.src.now c.args.state c.skip_blanks-blanks.result.end (start_at (goal.at.overflow_sub-chars c).After-lex_token-token)
 
 pub overflow_add-chars : goal.overflow_add-chars
 overflow_add-chars c =
