@@ -13,15 +13,12 @@ pub fn count_starts(src: &[u8], at: usize, count: usize, offset: usize, size: us
 {
     let end = step::end_offset(count, offset, size);
     let mut p = at;
-    let mut o = offset;
     let mut n = 0;
-    // A step goes over one character, of one to four bytes, so no `for` fits.
-    while o < end {
+    for _o in offset..end {
         if src.len() <= p {
             return n;
         }
         let b = src[p];
-        o += 1;
         p = utf8::next_place(src, p);
         if b == b'\n' {
             n += 1;

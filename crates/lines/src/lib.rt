@@ -28,21 +28,18 @@ pub fn write_starts(
 {
     let end = step::end_offset(count, offset, size);
     let mut p = at;
-    let mut o = offset;
     let mut n = lines;
-    // A step goes over one character, of one to four bytes, so no `for` fits.
-    while o < end {
+    for o in offset..end {
         if src.len() <= p {
             return;
         }
         let b = src[p];
-        o += 1;
         p = utf8::next_place(src, p);
         if b == b'\n' {
             if table.len() <= n {
                 return;
             }
-            table[n] = o;
+            table[n] = o + 1;
             n += 1;
         }
     }

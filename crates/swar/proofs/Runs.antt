@@ -3,14 +3,17 @@ use Prim.Native.Nat.{ℕ, zero, suc, ◌+◌, ◌*◌, ◌^◌, ◌≤◌, ◌<�
 use mathlib.Core.Path.{◌≡◌, refl, sym, ap, ◌∙◌}
 use mathlib.Core.Bool.{Bool, true, false, cond}
 use mathlib.Core.List.{List}
+use mathlib.Core.Logic.{inl, inr}
 use native.Mathlib.Nat.{add-zero, zero-min}
 use native.Mathlib.Omega.{arith}
 use lib.Bits.{bit_xor, xor_self}
+use lib.Dec.{eqb}
+use borrow.Author.Tests.{eqb-true, eq-eqb, ne_eqb}
 use lib.ListN.{take, drop, get_or}
-use Rattle.basics.proofs.Choice.{cond_ind}
+use Rattle.basics.proofs.Choice.{cond_ind, either}
 use Rattle.swar.specs.Number.{number_of}
 use Rattle.swar.specs.Lanes.{lanes}
-use Rattle.swar.specs.Marks.{before_mark, RunOf}
+use Rattle.swar.specs.Marks.{before_mark, run_of}
 use Rattle.swar.proofs.Numbers.{Bytes}
 use Rattle.swar.proofs.Trailing.{before_run}
 use Rattle.swar.proofs.Marks.{differ, differ_small, differ_each, xor_zero}
@@ -44,28 +47,36 @@ module _ (len : ℕ → ℕ) where
         unmarked true e = refl
         unmarked false e = absurd (omega arith)
 
--- as many of the next n bytes as are x
-module _ (x : ℕ) (h : x < 256) (s : List ℕ) (bytes : Bytes s) where
-  record Same (n p k : ℕ) : Type 0 where
-    few : k ≤ n
-    each : (i : ℕ) → i < k → get_or s (p + i) 0 ≡ x
-    all : k < n → get_or s (p + k) 0 ≡ x → ⊥
+-- the run of bytes x at a place, as far as n bytes go
+module _ (x : ℕ) (s : List ℕ) where
+  pub run_few : (n at : ℕ) → run_of x n s at ≤ n
+  unfolding run_of
+  run_few zero at = omega arith
+  run_few (suc n) at = cond_ind (λ k. k ≤ suc n) (eqb (get_or s at 0) x) (suc (run_of x n s (suc at))) 0 (λ _. omega (arith, run_few n (suc at))) (λ _. omega arith)
 
-  same_more : (n p k : ℕ) → get_or s p 0 ≡ x → Same n (suc p) k → Same (suc n) p (suc k)
-  same_more n p k e m = record { few = omega (arith, m.few); each = each; all = λ l z. m.all (omega arith) (rw (place k) z) }
-    where
-      place : (i : ℕ) → suc p + i ≡ p + suc i
-      place i = omega arith
+  pub run_each : (n at i : ℕ) → i < run_of x n s at → get_or s (at + i) 0 ≡ x
+  unfolding run_of
+  run_each zero at i l = absurd (omega arith)
+  run_each (suc n) at zero l =
+      elim (either (eqb (get_or s at 0) x)) [
+        | inl e ↦ rw (add-zero at) (eqb-true _ _ e)
+        | inr e ↦ absurd (let z = rw e at l in omega (arith, z))
+      ]
+  run_each (suc n) at (suc i) l =
+      elim (either (eqb (get_or s at 0) x)) [
+        | inl e ↦
+            let p : suc at + i ≡ at + suc i = omega arith in
+            let z = rw e at l in
+            rw p at (run_each n (suc at) i (omega (arith, z)))
+        | inr e ↦ absurd (let z = rw e at l in omega (arith, z))
+      ]
 
-      each : (i : ℕ) → i < suc k → get_or s (p + i) 0 ≡ x
-      each zero l = rw (add-zero p) e
-      each (suc i) l = rw (place i) at (m.each i (omega arith))
-
-  pub run_same : (at w : ℕ) → w < 2 ^ 64 → w ≡ number_of (take 8 (drop at s)) → RunOf x s at (before_mark 8 (bit_xor w (x * 0x0101_0101_0101_0101)))
-  run_same at w l e =
-      let r = before_run (differ x) (differ_small x h) s bytes Same
-      (λ p. record { few = omega arith; each = λ i l. absurd (omega arith); all = λ l. absurd (omega arith) })
-      (λ n p z. record { few = omega arith; each = λ i l. absurd (omega arith); all = λ l y. absurd (omega (arith, z, xor_self x, ap (differ x) (rw (add-zero p) at y))) })
-      (λ n p k z m. same_more n p k (xor_zero (get_or s p 0) x z) m) 8 at in
-      let n = ap (before_mark 8) (differ_each w x l h ∙ ap (lanes 8 (differ x)) e) in
-      rw n (record { few = r.few; each = r.each; all = r.all })
+  module _ (h : x < 256) (bytes : Bytes s) where
+    pub run_same : (at w : ℕ) → w < 2 ^ 64 → w ≡ number_of (take 8 (drop at s)) → before_mark 8 (bit_xor w (x * 0x0101_0101_0101_0101)) ≡ run_of x 8 s at
+    unfolding run_of
+    run_same at w l e =
+        ap (before_mark 8) (differ_each w x l h ∙ ap (lanes 8 (differ x)) e)
+        ∙ before_run (differ x) (differ_small x h) s bytes (λ n p k. k ≡ run_of x n s p)
+        (λ p. refl)
+        (λ n p z. rw (ne_eqb (get_or s p 0) x (λ y. omega (arith, z, xor_self x, ap (differ x) y))))
+        (λ n p k z m. rw (eq-eqb (get_or s p 0) x (xor_zero (get_or s p 0) x z)) (ap suc m)) 8 at

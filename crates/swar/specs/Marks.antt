@@ -1,5 +1,5 @@
 -- Tests of bytes in a number: what marks its bytes, and how many come before the first mark.
-use Rattle.std.specs.Prelude.{ℕ, zero, suc, ◌+◌, ◌/◌, ◌%◌, ◌≤◌, ◌<◌, ◌≡◌, Bool, ◌&&◌, cond, List, eqb, ltb, get_or}
+use Rattle.std.specs.Prelude.{ℕ, zero, suc, ◌/◌, ◌%◌, Bool, ◌&&◌, cond, List, eqb, ltb, get_or}
 use Rattle.basics.specs.Between.{between}
 
 -- a byte's mark, where a test holds of it
@@ -15,9 +15,8 @@ unfoldable pub before_mark : ℕ → ℕ → ℕ
 before_mark zero w = 0
 before_mark (suc n) w = cond (eqb (w % 256) 0) (suc (before_mark n (w / 256))) 0
 
--- n bytes from a place on are x, and they are eight, or the next is another; a text is taken to end
--- in zeros
-pub record RunOf (x : ℕ) (s : List ℕ) (at n : ℕ) : Type 0 where
-  pub few : n ≤ 8
-  pub each : (i : ℕ) → i < n → get_or s (at + i) 0 ≡ x
-  pub all : n < 8 → get_or s (at + n) 0 ≡ x → ⊥
+-- how many of the n bytes from a place on are x, before the first other; after its end a text is
+-- taken to have zeros
+unfoldable pub run_of : ℕ → ℕ → List ℕ → ℕ → ℕ
+run_of x zero s at = 0
+run_of x (suc n) s at = cond (eqb (get_or s at 0) x) (suc (run_of x n s (suc at))) 0

@@ -5,7 +5,7 @@
 ghost use Rattle.std.specs.Prelude.{◌≡◌, ◌+◌, ◌*◌, ◌≤◌, eqb, ltb, leb, length, take, drop};
 ghost use Rattle.swar.specs.Number.{number_of};
 ghost use Rattle.swar.specs.Lanes.{lanes};
-ghost use Rattle.swar.specs.Marks.{mark, ascii_between, before_mark, RunOf};
+ghost use Rattle.swar.specs.Marks.{mark, ascii_between, before_mark, run_of};
 
 // The number that the bytes from a place on are, where they are at most eight.
 fn last_bytes(s: &[u8], at: usize) -> u64
@@ -58,12 +58,19 @@ pub fn eight(s: &[u8], at: usize) -> u64
     }
 }
 
+// A byte in each of eight.
+fn repeated(byte: u8) -> u64
+    ensures { result ≡ byte * 0x0101_0101_0101_0101 }
+{
+    byte as u64 * 0x0101_0101_0101_0101
+}
+
 // Marks the bytes that are the one given. Each sum has in its top bit whether a byte's low seven
 // bits differ, and never reaches into the next byte.
 pub fn mark_byte(eight: u64, byte: u8) -> u64
     ensures { result ≡ lanes 8 (mark (λ b. eqb b byte)) eight }
 {
-    let apart = eight ^ (byte as u64 * 0x0101_0101_0101_0101);
+    let apart = eight ^ repeated(byte);
     let sums = (apart & 0x7F7F_7F7F_7F7F_7F7F) + 0x7F7F_7F7F_7F7F_7F7F;
     !(sums | apart) & 0x8080_8080_8080_8080
 }
@@ -74,8 +81,8 @@ pub fn mark_between(eight: u64, first: u8, last: u8) -> u64
     ensures { result ≡ lanes 8 (mark (ascii_between first last)) eight }
 {
     let low = eight & 0x7F7F_7F7F_7F7F_7F7F;
-    let from = (0x80 - first.min(0x80)) as u64 * 0x0101_0101_0101_0101;
-    let to = (0x80 + last.min(0x7F)) as u64 * 0x0101_0101_0101_0101;
+    let from = repeated(0x80 - first.min(0x80));
+    let to = repeated(0x80 + last.min(0x7F));
     (low + from) & (to - low) & !eight & 0x8080_8080_8080_8080
 }
 
@@ -96,7 +103,7 @@ pub fn before_mark(marks: u64) -> usize
 // How many of the next eight bytes are the one given, before the first other. (After its end a text
 // is taken to have zeros.)
 pub fn run_of(s: &[u8], at: usize, byte: u8) -> usize
-    ensures { RunOf byte s.now at result }
+    ensures { result ≡ run_of byte 8 s.now at }
 {
-    before_mark(eight(s, at) ^ (byte as u64 * 0x0101_0101_0101_0101))
+    before_mark(eight(s, at) ^ repeated(byte))
 }

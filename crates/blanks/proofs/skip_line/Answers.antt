@@ -10,6 +10,7 @@ use lib.ListN.{length, get_or}
 use Rattle.std.specs.Prelude.{Some, None}
 use Rattle.basics.proofs.Choice.{and_split}
 use Rattle.basics.proofs.Lists.{reach}
+use Rattle.swar.proofs.Runs.{run_few, run_each}
 use Rattle.blanks.specs.Blank.{is_blank}
 use Rattle.blanks.proofs.Blanks.{from, joined_start, blank_above, feed_blank, step_none, step_feed, step_tabs}
 use Rattle.blanks.proofs.skip_line.Goals as goal
@@ -30,7 +31,7 @@ pub overflow_add-line : goal.overflow_add-line
 overflow_add-line c = omega (arith, there (goal.at.overflow_add-line c).Then-byte-mark)
 
 pub overflow_add-end : goal.overflow_add-end
-overflow_add-end c = omega (arith, there (goal.at.overflow_add-end c).Then-byte-mark)
+overflow_add-end c = omega (arith, there (goal.at.overflow_add-end c).Then-byte-mark, c.run_of.ensures, run_few (code "\t") c.args.src.now 8 (c.args.at + 1))
 
 pub returns-then-byte-gt32 : goal.returns-then-byte-gt32
 returns-then-byte-gt32 c =
@@ -40,6 +41,6 @@ returns-then-byte-gt32 c =
     sym (
     joined_start a.at (from a.mark a.src.now a.at)
     ∙ step_feed a.mark a.src.now a.at 0 None blank (feed (goal.at.returns-then-byte-gt32 c).Then-byte-mark)
-    ∙ step_tabs a.mark a.src.now n (a.at + 1) 1 (Some (a.at + 1)) c.run_of.ensures.each
+    ∙ step_tabs a.mark a.src.now n (a.at + 1) 1 (Some (a.at + 1)) (λ i l. run_each (code "\t") a.src.now 8 (a.at + 1) i (omega (arith, c.run_of.ensures, l)))
     ∙ step_none a.mark a.src.now (a.at + 1 + n) 1 (Some (a.at + 1)) (blank_above a.mark _ (rw c.byte-then-byte-mark.ensures at c.if-byte-gt32.true))
     )

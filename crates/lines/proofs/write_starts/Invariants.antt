@@ -12,6 +12,3 @@ invariant-loop-o l =
     (length l.table ≡ length l.initial.table)
     × (l.o < l.end → l.end < l.size)
     × (sets l.initial.table l.lines (starts_read l.size l.offset (take l.count (chars (drop l.at l.src)))) ≡ sets l.table l.n (starts_read l.size l.o (take (l.end - l.o) (chars (drop l.p l.src)))))
-
-abbrev pub decreases-loop-o : goal.decreases-loop-o
-decreases-loop-o l = l.end - l.o

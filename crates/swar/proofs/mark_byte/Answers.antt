@@ -3,4 +3,4 @@ use Rattle.swar.proofs.Marks.{byte_each}
 use Rattle.swar.proofs.mark_byte.Goals as goal
 
 pub returns : goal.returns
-returns c = byte_each c.args.eight (search rules) c.args.byte (search rules)
+returns c = rw c.repeated.ensures (byte_each c.args.eight (search rules) c.args.byte (search rules))

@@ -8,9 +8,6 @@ use Rattle.lines.proofs.count.count_starts.Given as goal
 
 abbrev pub invariant-loop-o : goal.invariant-loop-o
 invariant-loop-o l =
-    (l.n ≤ l.o)
-    × (l.o < l.end → l.end < l.size)
-    × (length (starts_read l.size l.offset (take l.count (chars (drop l.at l.src)))) ≡ l.n + length (starts_read l.size l.o (take (l.end - l.o) (chars (drop l.p l.src)))))
-
-abbrev pub decreases-loop-o : goal.decreases-loop-o
-decreases-loop-o l = l.end - l.o
+    (l.n ≤ l._o)
+    × (l._o < l.end → l.end < l.size)
+    × (length (starts_read l.size l.offset (take l.count (chars (drop l.at l.src)))) ≡ l.n + length (starts_read l.size l._o (take (l.end - l._o) (chars (drop l.p l.src)))))
