@@ -9,7 +9,7 @@ use refusal::Refusal;
 use scanner::{State, Token};
 
 // The longest text in bytes.
-const MOST_BYTES: usize = 65_536;
+pub(crate) const MOST_BYTES: usize = 65_536;
 
 // The most scans of so many characters. Each reads one or more, or inserts a semicolon after one
 // that did, or is that of EOF.
@@ -45,75 +45,70 @@ pub(crate) struct Lent<'a> {
     pub(crate) area: &'a mut [u8],
 }
 
-// Lists a token that a scan gave, with the state after it.
-fn list_token<'a, F: Form>(
-    form: &F,
-    src: &'a [u8],
-    area: &'a [u8],
-    table: &[usize],
-    state: State,
-    token: Token,
-    out: &mut Output,
-) -> Result<(), Refusal> {
-    let shown = Shown {
-        place: scanner::position(state, table, token.position)?,
-        token,
-        text: scanner::text(src, area, token)?,
-        value: scanner::value(src, area, token)?,
-    };
-    form.token(out, shown);
-    Ok(())
+// A listing that is being written: in which form, of which text, and to where.
+#[derive(Drop)]
+pub(crate) struct Listing<'a, F: Form> {
+    pub(crate) form: &'a F,
+    pub(crate) src: &'a [u8],
+    pub(crate) out: &'a mut Output,
 }
 
-// Lists the errors, in order of arrival.
-fn list_errors<F: Form>(
-    form: &F,
-    src: &[u8],
-    last: State,
-    list: &[usize],
-    out: &mut Output,
-) -> Result<(), Refusal> {
-    // a list has more numbers than errors
-    for k in 0..list.len() {
-        match scanner::error(last, list, k)? {
-            Some(error) => form.error(out, src, error),
-            None => break,
+impl<F: Form> Listing<'_, F> {
+    // Lists a token that a scan gave, with the state after it.
+    fn token(
+        &mut self,
+        area: &[u8],
+        table: &[usize],
+        state: State,
+        token: Token,
+    ) -> Result<(), Refusal> {
+        let shown = Shown {
+            place: scanner::position(state, table, token.position)?,
+            token,
+            text: scanner::text(self.src, area, token)?,
+            value: scanner::value(self.src, area, token)?,
+        };
+        self.form.token(self.out, shown);
+        Ok(())
+    }
+
+    // Lists the errors, in order of arrival.
+    fn errors(&mut self, last: State, list: &[usize]) -> Result<(), Refusal> {
+        for k in 0..last.errors {
+            if let Some(error) = scanner::error(last, list, k)? {
+                self.form.error(self.out, self.src, error);
+            }
         }
+        Ok(())
     }
-    Ok(())
-}
 
-// Opens a text at base 0, in a size of its bytes, and lists its tokens to the first EOF and its
-// errors; gives the last state.
-fn list_text<F: Form>(
-    form: &F,
-    src: &[u8],
-    lent: Lent<'_>,
-    out: &mut Output,
-) -> Result<State, NotOpened> {
-    let Lent { table, list, area } = lent;
-    if src.len() > MOST_BYTES {
-        return Err(Refusal::TooLong.into());
-    }
-    let opened = scanner::open(src, 0, src.len(), table)?;
-    let mut state = opened.state;
-    for _ in 0..MOST_SCANS {
-        let scanned = scanner::scan(src, state, table, list, area)?;
-        state = scanned.state;
-        list_token(form, src, area, table, state, scanned.token, out)?;
-        if scanned.token.kind == Kind::Eof as u8 {
-            break;
+    // Opens the text at base 0, in a size of its bytes, and lists its tokens to the first EOF and
+    // its errors; gives the last state.
+    fn text(&mut self, lent: Lent<'_>) -> Result<State, NotOpened> {
+        let Lent { table, list, area } = lent;
+        if self.src.len() > MOST_BYTES {
+            return Err(Refusal::TooLong.into());
         }
+        let opened = scanner::open(self.src, 0, self.src.len(), table)?;
+        let mut state = opened.state;
+        for _ in 0..MOST_SCANS {
+            let scanned = scanner::scan(self.src, state, table, list, area)?;
+            state = scanned.state;
+            self.token(area, table, state, scanned.token)?;
+            if scanned.token.kind == Kind::Eof as u8 {
+                break;
+            }
+        }
+        self.errors(state, list)?;
+        Ok(state)
     }
-    list_errors(form, src, state, list, out)?;
-    Ok(state)
-}
 
-// Lists a text.
-pub(crate) fn list<F: Form>(form: &F, src: &[u8], lent: Lent<'_>, out: &mut Output) {
-    match list_text(form, src, lent, out) {
-        Ok(last) => form.end(out, last),
-        Err(why) => form.refused(out, why),
+    // Writes the whole listing.
+    pub(crate) fn write(&mut self, lent: Lent<'_>) {
+        match self.text(lent) {
+            Ok(last) => self.form.end(self.out, last),
+            Err(why) => self.form.refused(self.out, why),
+        }
+        self.out.flush();
     }
-    out.flush();
 }

@@ -11,7 +11,7 @@ mod show;
 mod texts;
 
 use arrayvec::ArrayVec;
-use listing::Lent;
+use listing::{Form, Lent, Listing};
 use output::Output;
 use people::Names;
 use show::Numbers;
@@ -29,7 +29,11 @@ fn wants_names(rt: &HostRuntime) -> bool {
 }
 
 // One byte more than the longest text has.
-const MOST_READ: usize = 65_537;
+const MOST_READ: usize = listing::MOST_BYTES + 1;
+
+fn write_listing<F: Form>(form: &F, src: &[u8], lent: Lent<'_>, out: &mut Output) {
+    Listing { form, src, out }.write(lent);
+}
 
 // A read that fails ends the text.
 fn main(rt: HostRuntime) {
@@ -46,8 +50,8 @@ fn main(rt: HostRuntime) {
     };
     let mut out = Output::new(rt.stdout());
     if wants_names(&rt) {
-        listing::list(&Names, src.as_slice(), lent, &mut out);
+        write_listing(&Names, src.as_slice(), lent, &mut out);
     } else {
-        listing::list(&Numbers, src.as_slice(), lent, &mut out);
+        write_listing(&Numbers, src.as_slice(), lent, &mut out);
     }
 }
