@@ -51,11 +51,6 @@ module _ (room : ℕ) (src : List ℕ) where
 
   -- ---- rounds
   module _ {from : Batch} {table list area tokens : List ℕ} where
-    -- before the first
-    pub goes_start : fits from.state src table list ≡ true → from.count < room
-        → Goes room src from table list area tokens from table list area tokens
-    goes_start f h = record { fit = f; over = omega arith; below = h; left = refl; same = λ _. refl }
-
     -- after a run, where there is room left
     pub goes_run : {n' : ℕ} {s' : State} {table' tokens' : List ℕ} → Leads room src list from.state table tokens from.count s' table' tokens' n' → n' < room
         → Goes room src from table list area tokens (record { state = s'; count = n' }) table' list area tokens'

@@ -29,7 +29,7 @@ use Rattle.batch.specs.declared.step.Reached.{Reached}
 use Rattle.batch.specs.Near.{feeds_of, line_from, near_as}
 use Rattle.batch.specs.Simple.{Gave}
 use Rattle.scanner.specs.Steps.{Reads}
-use Rattle.batch.specs.Run.{state_at, reached, start_at, IsSafe, Recorded, IsLined, StepsTo}
+use Rattle.batch.specs.Run.{state_at, reached, start_at, IsSafe, Recorded, IsLined, Leads}
 use Rattle.scanner.proofs.Scans.{held, scan_kept}
 use Rattle.scanner.proofs.Fitting.{fits_after}
 use Rattle.batch.proofs.Spaces.{line_skipped}
@@ -129,7 +129,7 @@ module _ (src : List ℕ) (first : State) (safe : ℕ) (is-safe : IsSafe src fir
     end_past : b.end ≤ g.x.end
     end_past = end_over src here table list (near_as at.place b) g.x holds reads g.plain g.ascii g.feeds
 
-    step_over : first.place ≤ r.place
+    pub step_over : first.place ≤ r.place
     step_over = omega (arith, g.place, over, start_past, end_past)
 
     before_size : here.offset + (g.x.end - here.place) < here.size
@@ -173,9 +173,6 @@ module _ (src : List ℕ) (first : State) (safe : ℕ) (is-safe : IsSafe src fir
           ∙ ap (λ t. left_after (n + 1) (sets tokens (n * token_width) (token_numbers t)) (many_of (room - (n + 1)) src stepped table' list area)) (sym given_is)
           ∙ ap (λ t. left_after (n + 1) more (many_of (room - (n + 1)) src t table' list area)) there_is
 
-    pub steps : (lines' : ℕ) → lines' ≡ at.lines + feeds_of b.line
-        → StepsTo src list first at table (Some (r.token, record { place = r.place; mark = r.mark; lines = lines' })) table'
-    steps lines' e = (
-      step_over,
-      λ room n tokens h. rw e (record { fit = step_fits; over = omega arith; within = λ k. omega arith; left = step_more room n tokens h; same = λ z. absurd (omega (arith, z)) }),
-    )
+      pub steps : (lines' : ℕ) → lines' ≡ at.lines + feeds_of b.line
+          → Leads room src list here table tokens n (reached first (record { place = r.place; mark = r.mark; lines = lines' }) table') table' more (n + 1)
+      steps lines' e = rw e (record { fit = step_fits; over = omega arith; within = λ k. omega arith; left = step_more; same = λ z. absurd (omega (arith, z)) })

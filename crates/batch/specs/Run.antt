@@ -1,5 +1,5 @@
 -- Steps of the code. No public contract cites this file. Runs of simple tokens and rounds of scans.
-use Rattle.std.specs.Prelude.{ℕ, ◌+◌, ◌-◌, ◌*◌, ◌≤◌, ◌<◌, ◌≡◌, ◌^◌, Bool, true, List, ◌⊎◌, length, drop, set, Option, IfSome, MatchOption, Result, Ok, Err}
+use Rattle.std.specs.Prelude.{ℕ, ◌+◌, ◌-◌, ◌≤◌, ◌<◌, ◌≡◌, ◌^◌, Bool, true, List, ◌⊎◌, length, drop, set, Option, IfSome, Result, Ok, Err}
 use Rattle.std.specs.declared.ops.ControlFlow.{ControlFlow}
 use Rattle.std.specs.declared.ops.ControlFlow.TheVariants.{Continue, Break}
 use Rattle.utf8.specs.Chars.{chars}
@@ -11,14 +11,13 @@ use Rattle.blanks.specs.Blank.{skip, skipped_at}
 use Rattle.state.specs.declared.state.State.{State}
 use Rattle.state.specs.State.{advance}
 use Rattle.state.specs.Fits.{fits}
-use Rattle.std.proofs.lemmas.List.Edits.{sets}
-use Rattle.parts.specs.declared.token.Token.{Token}
-use Rattle.parts.specs.Layout.{token_width, token_numbers}
 use Rattle.scanner.specs.Scan.{scan_of}
 use Rattle.batch.specs.declared.step.Reached.{Reached}
 use Rattle.batch.specs.declared.near.Near.{Near}
 use Rattle.batch.specs.declared.run.Batch.{Batch}
+use Rattle.batch.specs.declared.next.Next.{Next}
 use Rattle.batch.specs.Near.{line_from, near_as}
+use Rattle.batch.specs.Simple.{Gave}
 use Rattle.batch.specs.Many.{stopped, many_of, token_room, left_after}
 
 -- there is room for a token after so many
@@ -57,6 +56,12 @@ abbrev pub ReadyAt : List ℕ → Reached → ℕ → List ℕ → Option Near �
 ReadyAt src at safe table r =
     IfSome r (λ blanks. (near_as at.place blanks ≡ skipped_at at.place (skip at.mark (chars (drop at.place src)))) × IsReady blanks safe at.lines table)
 
+-- the next token of a run is this one, after these blanks
+abbrev pub IsNext : List ℕ → State → ℕ → Reached → List ℕ → Near → Next → Type 0
+IsNext src s safe at table blanks next =
+    (near_as at.place blanks ≡ skipped_at at.place (skip at.mark (chars (drop at.place src)))) × IsReady blanks safe at.lines table
+    × Gave src blanks.end safe (s.base + s.offset + (blanks.end - s.place)) next
+
 -- their line start lies behind the place, its offset is small, and there is room for it
 abbrev pub IsLined : State → Reached → Near → List ℕ → Type 0
 IsLined s at blanks table =
@@ -71,15 +76,6 @@ pub record Leads (room : ℕ) (src list : List ℕ) (s : State) (table tokens : 
   pub left : (area : List ℕ)
       → left_after n tokens (many_of (room - n) src s table list area) ≡ left_after n' tokens' (many_of (room - n') src s' table' list area)
   pub same : n' ≡ n → (area : List ℕ) → scan_of src s table list area ≡ scan_of src s' table' list area
-
--- a step of a run gives one token more, which is to be written after the others, or leaves all as
--- it is
-abbrev pub StepsTo : List ℕ → List ℕ → State → Reached → List ℕ → Option (Token × Reached) → List ℕ → Type 0
-StepsTo src list s at table r table' =
-    MatchOption r (table' ≡ table)
-    (λ step. (s.place ≤ step.1.place)
-    × ((room n : ℕ) (tokens : List ℕ) → n < room
-    → Leads room src list (reached s at table) table tokens n (reached s step.1 table') table' (sets tokens (n * token_width) (token_numbers step.0)) (n + 1)))
 
 -- from a state and its count rounds of scans lead to others, from which scans go on; with no token
 -- more, the next scan is refused as this one

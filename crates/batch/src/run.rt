@@ -5,7 +5,7 @@ ghost use Rattle.batch.specs.Many.{token_room};
 ghost use Rattle.batch.specs.Run.{reached, start_at, IsSafe, Leads};
 
 use crate::layout::{put_token_at, token_room};
-use crate::step::{Reached, next_simple};
+use crate::step::{Reached, next_simple, record_line};
 use crate::tables::Tables;
 use position::Line;
 use state::State;
@@ -72,9 +72,14 @@ pub(crate) fn run_simple(
     let mut count = from.count;
     while count < room {
         match next_simple(src, tables, first, safe, at, table, list) {
-            Some((token, next)) => {
-                put_token_at(token, tokens, count);
-                at = next;
+            Some((blanks, next)) => {
+                put_token_at(next.token, tokens, count);
+                let lines = record_line(first, at, blanks, table);
+                at = Reached {
+                    place: next.place,
+                    mark: next.mark,
+                    lines,
+                };
                 count += 1;
             }
             None => break,

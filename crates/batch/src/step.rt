@@ -1,14 +1,14 @@
 // A step of a run: blanks, and one simple token after them.
-ghost use Rattle.std.specs.Prelude.{◌≡◌, true, ℕ, ◌+◌, ◌≤◌, ◌<◌, length};
+ghost use Rattle.std.specs.Prelude.{◌≡◌, true, ℕ, ◌+◌, ◌≤◌, ◌<◌, length, IfSome};
 ghost use Rattle.state.specs.Fits.{fits};
 ghost use Rattle.batch.specs.Near.{feeds_of, near_as};
-ghost use Rattle.batch.specs.Run.{reached, IsSafe, Recorded, IsReady, ReadyAt, IsLined, StepsTo};
+ghost use Rattle.batch.specs.Run.{reached, IsSafe, Recorded, IsReady, ReadyAt, IsLined, IsNext};
 
 use crate::near::{Near, near_blanks};
+use crate::next::Next;
 use crate::simple::give_simple;
 use crate::start::Start;
 use crate::tables::Tables;
-use parts::Token;
 use state::State;
 
 // How far a run of simple tokens has come: the place, and the mark and the count of line starts
@@ -51,7 +51,7 @@ fn ready_blanks(src: &[u8], safe: usize, at: Reached, table: &[usize]) -> Option
 
 // Records the line start after the line feed of blanks, if they have one; answers how many line
 // starts there are then.
-fn record_line(first: State, at: Reached, blanks: Near, table: &mut [usize]) -> usize
+pub(crate) fn record_line(first: State, at: Reached, blanks: Near, table: &mut [usize]) -> usize
     requires { IsLined first at blanks table.old }
     ensures { Recorded (reached first at table.old) (near_as at.place blanks) table.old table.new × (result ≡ at.lines + feeds_of blanks.line) }
 {
@@ -62,18 +62,18 @@ fn record_line(first: State, at: Reached, blanks: Near, table: &mut [usize]) -> 
     at.lines + 1
 }
 
-// Gives the next simple token, if there is one, and how far the run has come after it.
+// Gives the next simple token, if there is one, and the blanks before it.
 pub(crate) fn next_simple(
     src: &[u8],
     tables: &Tables,
     first: State,
     safe: usize,
     at: Reached,
-    table: &mut [usize],
+    table: &[usize],
     list: &[usize],
-) -> Option<(Token, Reached)>
-    requires { (fits (reached first at table.old) src.now table.old list.now ≡ true) × (first.place ≤ at.place) × IsSafe src.now first safe }
-    ensures { StepsTo src.now list.now first at table.old result table.new }
+) -> Option<(Near, Next)>
+    requires { (fits (reached first at table.now) src.now table.now list.now ≡ true) × (first.place ≤ at.place) × IsSafe src.now first safe }
+    ensures { IfSome result (λ step. IsNext src.now first safe at table.now step.0 step.1) }
 {
     let blanks = ready_blanks(src, safe, at, table)?;
     let start = Start {
@@ -83,11 +83,5 @@ pub(crate) fn next_simple(
         position: first.base + first.offset + (blanks.end - first.place),
     };
     let next = give_simple(start, tables)?;
-    let lines = record_line(first, at, blanks, table);
-    let reached = Reached {
-        place: next.place,
-        mark: next.mark,
-        lines,
-    };
-    Some((next.token, reached))
+    Some((blanks, next))
 }

@@ -1,11 +1,11 @@
 -- `run::run_simple` meets its contract.
-use mathlib.Core.Path.{◌≡◌, refl, ◌∙◌}
+use mathlib.Core.Path.{refl}
 use native.Mathlib.Omega.{arith}
 use borrow.Author.Rules.{rules}
 use Rattle.batch.specs.Many.{token_room}
+use Rattle.batch.proofs.Runs.{is_lined, step_over, steps}
 use Rattle.batch.proofs.Rounds.{leads_on, safe_ready, state_ready, leads_start}
 use Rattle.batch.proofs.run.run_simple.Goals as goal
-use Rattle.batch.proofs.run.run_simple.Goals.{else-loop-count-test, then-loop-count-test+in-None}
 
 pub safe_end-safe-requires : goal.safe_end-safe-requires
 safe_end-safe-requires c = let a = c.args in safe_ready a.src.now a.list.now a.from.state a.table.now c.requires
@@ -15,17 +15,31 @@ loop-count-init c =
     let a = c.args in
     rw c.start_at-at.ensures (refl, omega arith, leads_start a.src.now a.list.now (token_room a.tokens.now) a.from a.table.now a.tokens.now c.requires)
 
+pub record_line-lines-requires : goal.record_line-lines-requires
+record_line-lines-requires c =
+    let a = c.args in
+    let l = c.loop-count in
+    let e = c.in-Some.ensures in
+    is_lined a.src.now a.from.state c.safe_end-safe.result c.safe_end-safe.ensures l.table a.list.now l.at l.invariant.1 l.invariant.2.fit c.in-Some.blanks e.0 e.1.0 e.1.1
+
 pub loop-count-preserved : goal.loop-count-preserved
 loop-count-preserved c =
+    let a = c.args in
     let l = c.loop-count in
-    let step = c.in-Some.ensures in
-    let room = token_room c.args.tokens.now in
-    (search rules, step.0, rw c.put_token_at.ensures (leads_on room c.args.src.now l.invariant.2 (step.1 room l.count l.tokens (rw c.token_room-room.ensures at c.loop-count-test.true))))
+    let e = c.in-Some.ensures in
+    let w = c.record_line-lines.ensures in
+    let room = token_room a.tokens.now in
+    let fit = l.invariant.2.fit in (
+      search rules,
+      step_over a.src.now a.from.state c.safe_end-safe.result c.safe_end-safe.ensures l.table a.list.now l.at l.invariant.1 fit c.in-Some.blanks e.0 e.1.0 e.2 w.0,
+      rw c.put_token_at.ensures
+          (leads_on room a.src.now l.invariant.2
+          (steps a.src.now a.from.state c.safe_end-safe.result c.safe_end-safe.ensures l.table a.list.now l.at l.invariant.1 fit c.in-Some.blanks e.0 e.1.0 e.2 w.0
+          room l.count l.tokens (rw c.token_room-room.ensures at c.loop-count-test.true) c.record_line-lines.result w.1)),
+    )
 
 pub state_at-requires : goal.state_at-requires
 state_at-requires c =
     let a = c.args in
     let l = c.loop-count in
-    let same : c.loop-count-test.table ≡ l.table =
-    elim c.loop-count-test.branch [ else-loop-count-test w ↦ w.table-is | then-loop-count-test+in-None w ↦ w.table-is ∙ w.in-None.ensures ] in
-    state_ready a.src.now a.list.now a.from.state l.at c.loop-count-test.table (rw same l.invariant.2.fit) l.invariant.1
+    state_ready a.src.now a.list.now a.from.state l.at l.table l.invariant.2.fit l.invariant.1

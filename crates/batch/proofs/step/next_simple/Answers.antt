@@ -1,7 +1,7 @@
 -- `step::next_simple` meets its contract: a token that is given is one step of the run.
 use Prim.Native.Nat.{◌+◌, ◌-◌, ◌<◌, ◌^◌}
 use native.Mathlib.Omega.{arith}
-use Rattle.batch.proofs.Runs.{position_small, safe_inside, is_lined, steps}
+use Rattle.batch.proofs.Runs.{position_small, safe_inside}
 use Rattle.batch.proofs.step.next_simple.Goals as goal
 use Rattle.batch.proofs.step.next_simple.Goals.{In_ok-blanks}
 
@@ -28,18 +28,3 @@ invariant_of-start-clause-inside c =
 
 pub invariant_of-start-clause-bytes : goal.invariant_of-start-clause-bytes
 invariant_of-start-clause-bytes c = λ p. (c.type_inv.src p).fits
-
-pub record_line-lines-requires : goal.record_line-lines-requires
-record_line-lines-requires c =
-    let a = c.args in
-    let p = c.requires in
-    let e = c.in_ok-blanks.ensures in
-    is_lined a.src.now a.first a.safe p.2 a.table.now a.list.now a.at p.1 p.0 c.in_ok-blanks.blanks e.0 e.1.0 e.1.1
-
-pub returns : goal.returns
-returns c =
-    let a = c.args in
-    let p = c.requires in
-    let e = c.in_ok-blanks.ensures in
-    let w = c.record_line-lines.ensures in
-    steps a.src.now a.first a.safe p.2 a.table.now a.list.now a.at p.1 p.0 c.in_ok-blanks.blanks e.0 e.1.0 c.in_ok-next.ensures w.0 c.record_line-lines.result w.1
