@@ -1,5 +1,5 @@
 // Reads the cases, byte by byte.
-use crate::machine::Machine;
+use crate::machine::{Call, Machine};
 use crate::registers::Registers;
 use crate::show::Output;
 
@@ -76,7 +76,7 @@ impl Reader {
         self.letter = letter;
     }
 
-    // Reads a digit of it, modulo 2^64.
+    // Reads a digit of it; one that would take the number past 2^64 is left out.
     fn add_digit(&mut self, digit: u8) {
         let n = self.machine.registers.named(self.letter);
         if *n <= usize::MAX / 10 {
@@ -101,7 +101,12 @@ impl Reader {
         self.mode = Mode::Words;
         let to = self.from.wrapping_add(self.machine.registers.source);
         let source = cases.get(self.from..to).unwrap_or(&[]);
-        self.machine.call(source, letter, byte, self.out);
+        self.machine.make(Call {
+            source,
+            letter,
+            function: byte,
+            out: self.out,
+        });
     }
 
     // Reads the byte at a place of the cases.

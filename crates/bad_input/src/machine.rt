@@ -5,6 +5,15 @@ use crate::{places, scans, texts};
 use scanner::State;
 use std::iter;
 
+// A call of a case, by its two letters: of which source, and where its answer is shown.
+#[derive(Clone, Copy)]
+pub(crate) struct Call<'a> {
+    pub(crate) source: &'a [u8],
+    pub(crate) letter: u8,
+    pub(crate) function: u8,
+    pub(crate) out: Output,
+}
+
 #[derive(Clone, Copy)]
 pub(crate) struct Machine {
     pub(crate) registers: Registers,
@@ -43,18 +52,17 @@ impl Machine {
 
     // Makes a call, lends it as much of each buffer as the registers say, and keeps the state after
     // it.
-    fn lend(&mut self, source: &[u8], letter: u8, function: u8, out: Output) {
+    fn lend(&mut self, call: Call<'_>) {
         let registers = self.registers;
         let mut table = self.table;
         let mut list = self.list;
         let mut area = self.area;
         let lent = Lent {
-            source,
             table: &mut table[..registers.table.min(8)],
             list: &mut list[..registers.list.min(16)],
             area: &mut area[..registers.area.min(32)],
         };
-        let state = call_lent(letter, function, registers, lent, out);
+        let state = call_lent(call, registers, lent);
         scanner::put_state(state, &mut self.registers.state);
         self.table = table;
         self.list = list;
@@ -62,11 +70,11 @@ impl Machine {
     }
 
     // After the answer comes `changed` if the call changed the state or a buffer.
-    fn lend_and_compare(&mut self, source: &[u8], letter: u8, function: u8, out: Output) {
+    fn lend_and_compare(&mut self, call: Call<'_>) {
         let before = self.sum();
-        self.lend(source, letter, function, out);
+        self.lend(call);
         if self.sum() != before {
-            out.bytes(b" changed");
+            call.out.bytes(b" changed");
         }
     }
 
@@ -80,13 +88,13 @@ impl Machine {
 
     // Makes a call by its two letters. They stay letters, as the cases have them; no closures fit,
     // since each call takes other arguments and shows another type.
-    pub(crate) fn call(&mut self, source: &[u8], letter: u8, function: u8, out: Output) {
+    pub(crate) fn make(&mut self, call: Call<'_>) {
         let Registers { n, i, .. } = self.registers;
-        match letter {
-            b'U' => texts::utf8(source, function, n, i, out),
-            b'K' => texts::kinds(source, function, n, out),
+        match call.letter {
+            b'U' => texts::utf8(call.source, call.function, n, i, call.out),
+            b'K' => texts::kinds(call.source, call.function, n, call.out),
             b'T' => self.set_start(),
-            _ => self.lend_and_compare(source, letter, function, out),
+            _ => self.lend_and_compare(call),
         }
     }
 }
@@ -94,21 +102,21 @@ impl Machine {
 // What a call is lent.
 #[derive(Drop)]
 pub(crate) struct Lent<'a> {
-    pub(crate) source: &'a [u8],
     pub(crate) table: &'a mut [usize],
     pub(crate) list: &'a mut [usize],
     pub(crate) area: &'a mut [u8],
 }
 
 // A call that is lent buffers; gives the state after it.
-fn call_lent(letter: u8, function: u8, registers: Registers, lent: Lent<'_>, out: Output) -> State {
+fn call_lent(call: Call<'_>, registers: Registers, lent: Lent<'_>) -> State {
     let Registers { n, i, j, .. } = registers;
-    let Lent {
+    let Lent { table, list, area } = lent;
+    let Call {
         source,
-        table,
-        list,
-        area,
-    } = lent;
+        letter,
+        function,
+        out,
+    } = call;
     let state = scanner::state_in(&registers.state);
     match letter {
         b'P' => places::position(function, state, table, n, i, out),

@@ -25,7 +25,8 @@ pub fn is_space(b: u8) -> bool
 }
 
 // Skips blanks byte by byte. The bits of a number tell which bytes up to a space are blanks: 9 and
-// 13 (tab, CR), 32 (space), and 10 (LF).
+// 13 (tab, CR), 32 (space), and 10 (LF): one test in place of one for each. The loop is over places,
+// since a place is the answer.
 fn skip_bytes(src: &[u8], at: usize, mark: bool) -> Skipped
     ensures { result ≡ skipped_at at (skip mark (chars (drop at src.now))) }
 {

@@ -29,7 +29,8 @@ pub enum Fault {
     UnknownToken,
 }
 
-// A number that is the number of no fault.
+// A number that is the number of no fault. (`kinds::UnknownKind` holds a byte, as a token does, and
+// an error's number is a `usize`.)
 #[derive(Clone, Copy, PartialEq, Eq)]
 pub struct UnknownFault(pub usize);
 

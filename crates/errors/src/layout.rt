@@ -3,7 +3,8 @@ ghost use Rattle.std.specs.Prelude.{◌≡◌, ◌+◌, ◌≤◌, length};
 ghost use Rattle.std.proofs.lemmas.List.Edits.{sets};
 ghost use Rattle.errors.specs.Layout.{width, numbers, record_at};
 
-// An error: where it was found, and its number. (No `Fault`: a list is lent, and what `get` reads
+// An error: where it was found, and its number. (The place is no `Position`, whose crate is above
+// this one. No `Fault`: a list is lent, and what `get` reads
 // of it may be any number.)
 #[derive(Clone, Copy)]
 pub struct Error {

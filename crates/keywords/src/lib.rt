@@ -62,7 +62,8 @@ fn slot_of(number: u64, n: usize) -> usize
     (n % 64 + (number % 256 * 8 + number / 256 % 256 * 59) as usize) % 64
 }
 
-// The keyword in a slot. (A match becomes a constant table; an array would be built at each call.)
+// The keyword in a slot; IDENT and 0 where there is none, as the definition and the tables below have
+// it. (A match becomes a constant table; an array would be built at each call.)
 fn row_in(slot: usize) -> Row
     ensures { pair (kind_number result.0) result.1 ≡ row_in slot keywords }
 {
@@ -109,7 +110,8 @@ pub fn ident_token(text: &[u8], len: usize) -> Kind
 }
 
 // The keywords of at most eight bytes as numbers, each in its slot; 0 where there is none. A loop
-// over many words has these tables made once, and does without a call.
+// over many words has these tables made once, and does without a call. (They are two arrays, since
+// docs/PROVED.md promises both functions and what `kind_in` gives for any two tables.)
 pub fn keyword_numbers() -> [u64; 64]
     ensures { result ≡ by_slot (λ slot. (row_in slot keywords).1) }
 {

@@ -52,7 +52,7 @@ pub struct Lexed {
     // the pending mark that it leaves
     pub mark: bool,
     pub error: Option<Fault>,
-    // the code point of a CHAR, and 0 of any other token: a number, as the tokens for C have it
+    // the code point of a CHAR, and 0 of any other token: the number that a token is given
     pub code: u32,
     pub text: Shown<Text>,
     pub value: Shown<Value>,

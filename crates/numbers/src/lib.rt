@@ -33,7 +33,8 @@ pub enum Spelling {
     LowerExponent,
 }
 
-// A number: its kind, the place after it, what is wrong with it, and how its text is written.
+// A number: its kind, the place after it, what is wrong with it, and how its text is written. (No
+// `Result` of a kind: a lexeme has both fields, as the definition has, and would take it apart.)
 #[derive(Clone, Copy)]
 pub struct Number {
     pub kind: Kind,

@@ -32,7 +32,8 @@ fn ended(end: usize, misplaced: bool) -> Result<usize, Misplaced>
     }
 }
 
-// The place after the run at a place: digits below the base, and single underscores.
+// The place after the run at a place: digits below the base, and single underscores. (The loop is
+// over places, since a place is the answer.)
 pub(crate) fn scan_digits(src: &[u8], at: usize, base: Base) -> Result<usize, Misplaced>
     ensures { result ≡ digits_at at (digit_run (base_number base) false (chars (drop at src.now))) }
 {

@@ -4,7 +4,8 @@ ghost use Rattle.parts.specs.Shown.{shown_as, shown_of};
 
 use refusal::Refusal;
 
-// The part of the text area, or of the source, that a text or a value is in.
+// The part of the text area, or of the source, that a text or a value is in. (Which of the two is a
+// flag, as it is among the numbers for C.)
 #[derive(Clone, Copy)]
 pub struct Part {
     pub area: bool,

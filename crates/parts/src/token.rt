@@ -14,7 +14,7 @@ pub struct Token {
     // a semicolon that is not in the text
     pub inserted: bool,
     pub position: usize,
-    // the code point of a CHAR
+    // the code point of a CHAR, 0 of any other token: C has this number
     pub code: u32,
     pub text: Part,
     // the value of a STRING

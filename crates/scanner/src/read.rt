@@ -6,7 +6,9 @@ use blanks::Skipped;
 use lexer::Lexed;
 use state::State;
 
-// The blanks and the token that were read, and how many characters they have together.
+// The blanks and the token that were read, and how many characters they have together. (The state
+// goes beside a pass and not in it: a pass is what was read from there, and the definitions of the
+// steps take the two apart.)
 #[derive(Clone, Copy)]
 pub(crate) struct Pass {
     pub(crate) blanks: Skipped,

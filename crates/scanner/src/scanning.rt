@@ -56,8 +56,8 @@ fn has_room(x: Lexed, area: usize) -> bool
     }
 }
 
-// The first refusal of 3, 7, 8 and 9 whose condition holds: for the offset reached, the line starts
-// read and the lengths of the buffers.
+// The first of `BadSize`, `TableFull`, `ListFull` and `AreaFull` whose condition holds: for the offset
+// reached, the line starts read and the lengths of the buffers.
 fn check(
     x: Lexed,
     offset: usize,

@@ -8,7 +8,8 @@ ghost use Rattle.spans.specs.Counted.{Counted};
 use crate::plain;
 
 // What is read of a body: where it ends, how many characters it has, whether its closing was read,
-// and how many of its characters are LFs, CRs and stray bytes.
+// and how many of its characters are LFs, CRs and stray bytes. (`closed` is no flag of another field:
+// all of them count in both cases.)
 #[derive(Clone, Copy)]
 pub struct Body {
     pub end: usize,

@@ -1,5 +1,7 @@
 // Eight bytes of a text as one number, the first byte lowest. Tests of all eight at once give such a
 // number too: it has a mark, 0x80, in each byte where the test holds, and 0 in the others.
+// (A source and a place stay two parameters, as docs/PROVED.md promises: a struct of both would be
+// named in each contract and each call, and is no plainer.)
 #![tactic(auto)]
 
 ghost use Rattle.std.specs.Prelude.{◌≡◌, ◌+◌, ◌*◌, ◌≤◌, eqb, ltb, leb, length, take, drop};

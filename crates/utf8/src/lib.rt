@@ -1,4 +1,6 @@
 // UTF-8 by RFC 3629: the character at a place of a text.
+// (A source and a place stay two parameters, as docs/PROVED.md promises: a struct of both would be
+// named in each contract and each call, and is no plainer.)
 #![tactic(auto)]
 
 mod sequence;

@@ -28,7 +28,8 @@ fn within(lo: u8, b: u8, hi: u8) -> bool
     lo <= b && b <= hi
 }
 
-// The byte at a place, 0 past the end.
+// The byte at a place, 0 past the end. (`state::number_at` is the same of numbers. One function for
+// both would need a trait for their 0, with its law, and is no plainer.)
 pub fn byte(s: &[u8], at: usize) -> u8
     ensures { result ≡ get_or s.now at 0 }
 {
