@@ -188,10 +188,3 @@ played_view src areas h = (plays src areas h).1.view ∙ ap (run lex h.state.siz
 -- the tokens that they gave
 pub played_tokens : (src : List ℕ) (areas : List (List ℕ)) (h : Held) → tokens src areas h ≡ firsts (seen_at src h) (length (tokens src areas h))
 played_tokens src areas h = (plays src areas h).1.tokens ∙ ap (firsts (seen_at src h)) (count src areas h)
-
--- the file's place among positions stays
-pub played_base : (src : List ℕ) (areas : List (List ℕ)) (h : Held) → (play src areas h).state.base ≡ h.state.base
-played_base src areas h = (plays src areas h).1.base
-
-pub played_size : (src : List ℕ) (areas : List (List ℕ)) (h : Held) → (play src areas h).state.size ≡ h.state.size
-played_size src areas h = (plays src areas h).1.size
