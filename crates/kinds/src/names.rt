@@ -7,6 +7,7 @@ use crate::Kind;
 
 impl Kind {
     // The name of a kind.
+    #[tactic(auto, unfolding(crate::specs::Table::row_of, crate::specs::Table::table, crate::specs::Table::specials, crate::specs::Table::operators, crate::specs::Table::keywords))]
     pub fn name(self) -> &'static str
         ensures { result.now ≡ name_of (kind_number self) }
     {

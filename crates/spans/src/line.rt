@@ -32,7 +32,7 @@ fn blank_to_end(src: &[u8], at: usize) -> bool
 
 // Searches the end of a general comment, from after its opening, within its line.
 // A loop with a break value, and an enum of its own for it: the scope fixes this form
-// (docs/PROVED.md, "The shape of some places").
+// (docs/PROVED.md, "Forms that the scope asks for").
 fn comment_end(src: &[u8], at: usize) -> Stop
     ensures { result ≡ stop_from at false (chars (drop at src.now)) }
 {
