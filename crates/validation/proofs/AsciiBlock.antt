@@ -1,38 +1,32 @@
 -- Laws of blocks of ASCII: one byte more, by the greatest byte so far.
-use Prim.Native.Nat.{ℕ, ◌+◌, ◌≤◌, ◌<◌}
-use mathlib.Core.Path.{◌≡◌, refl, sym, ◌∙◌}
-use mathlib.Core.Bool.{Bool, true, false, ◌&&◌, and-true, and-false, and_assoc}
-use mathlib.Core.List.{List, [], ◌∷◌, ◌++◌}
+use Prim.Native.Nat.{ℕ, zero, suc, ◌+◌, ◌≤◌, ◌<◌}
+use mathlib.Core.Path.{◌≡◌, refl}
+use mathlib.Core.Bool.{Bool, true, false, and-false}
+use mathlib.Core.List.{List, [], ◌∷◌}
 use native.Mathlib.Omega.{arith}
 use lib.Dec.{ltb, leb}
-use lib.ListN.{length, get_or, take, drop}
-use borrow.Author.Tests.{ltb-true, lt-ltb, leb-true, le-leb, lt-leb}
+use lib.ListN.{length, take, drop}
+use borrow.Author.Tests.{lt-ltb, leb-true, le-leb, lt-leb}
+use borrow.Author.Tests.{le-ltb}
+use Rattle.std.specs.Prelude.{slice_index}
+use Rattle.std.specs.Bool.{MatchBool}
+use Rattle.std.specs.Str.{IsAscii, IsNotAscii}
 use Rattle.basics.proofs.Choice.{and_split}
-use Rattle.basics.proofs.Lists.{take_more}
 use Rattle.validation.specs.Steps.{all_ascii, ascii_block}
 
-all_ascii_snoc : (s : List ℕ) (b : ℕ) → all_ascii (s ++ (b ∷ [])) ≡ all_ascii s && ltb b 0x80
-all_ascii_snoc [] b = and-true (ltb b 0x80)
-all_ascii_snoc (x ∷ s) b = rw (all_ascii_snoc s b) (sym (and_assoc (ltb x 0x80) (all_ascii s) (ltb b 0x80)))
+-- what the library says of a text's bytes
+ascii_all : (s : List ℕ) → IsAscii s → all_ascii s ≡ true
+ascii_all [] h = refl
+ascii_all (b ∷ s) h = let l : b < 0x80 = h 0 in rw (lt-ltb b 0x80 l) (ascii_all s (λ i. h (suc i)))
 
-module _ (s : List ℕ) (at k g : ℕ) (inside : at + k < length s) (before : all_ascii (take k (drop at s)) ≡ ltb g 0x80) where
-  one_more : all_ascii (take (k + 1) (drop at s)) ≡ ltb g 0x80 && ltb (get_or s (at + k) 0) 0x80
-  one_more = rw (take_more s at k 0 inside, all_ascii_snoc, before) refl
+ascii_some : (s : List ℕ) (i : ℕ) → 128 ≤ slice_index s i → all_ascii s ≡ false
+ascii_some [] i h = absurd (omega arith)
+ascii_some (b ∷ s) zero h = rw (le-ltb b 0x80 h)
+ascii_some (b ∷ s) (suc i) h = rw (ascii_some s i h) (and-false (ltb b 0x80))
 
-  -- the greatest byte of one more
-  pub ascii_greater : g < get_or s (at + k) 0 → all_ascii (take (k + 1) (drop at s)) ≡ ltb (get_or s (at + k) 0) 0x80
-  ascii_greater h = one_more ∙ go (ltb (get_or s (at + k) 0) 0x80) refl
-    where
-      go : (t : Bool) → ltb (get_or s (at + k) 0) 0x80 ≡ t → ltb g 0x80 && t ≡ t
-      go true e = rw (lt-ltb g 0x80 (omega (arith, ltb-true (get_or s (at + k) 0) 0x80 e)))
-      go false e = and-false (ltb g 0x80)
-
-  pub ascii_no_greater : get_or s (at + k) 0 ≤ g → all_ascii (take (k + 1) (drop at s)) ≡ ltb g 0x80
-  ascii_no_greater h = one_more ∙ go (ltb g 0x80) refl
-    where
-      go : (t : Bool) → ltb g 0x80 ≡ t → t && ltb (get_or s (at + k) 0) 0x80 ≡ t
-      go true e = lt-ltb (get_or s (at + k) 0) 0x80 (omega (arith, ltb-true g 0x80 e))
-      go false e = refl
+pub ascii_is : (s : List ℕ) (t : Bool) → MatchBool t (IsAscii s) (IsNotAscii s) → all_ascii s ≡ t
+ascii_is s true h = ascii_all s h
+ascii_is s false h = ascii_some s h.0 h.1
 
 module _ (s : List ℕ) (at : ℕ) where
   pub block_short : length s < at + 32 → ascii_block s at ≡ false
