@@ -3,10 +3,10 @@ ghost use Rattle.std.specs.Prelude.{◌≡◌, ◌+◌, ◌<◌, length};
 ghost use Rattle.spans.specs.Plain.{plain_block, PlainRun};
 
 // Are there 16 bytes at a place, none of which is to be looked at by itself? Each test is made of
-// each byte: a loop of few wide steps. `validation` has such a function for 32 bytes. They stay two:
-// one for both would be public and take the test as a closure, so it would require that this may be
-// called, and no public function here requires anything. And `validation` takes the greatest byte,
-// by which the compiler makes its wide steps.
+// each byte: a loop of few wide steps, where `any` would stop at the first byte of which one holds.
+// (`validation` asks the library's `is_ascii` of 32 bytes. One function for both would take the test:
+// as a closure, which a public function cannot have without a `requires`, or as a trait with its law,
+// which would be longer than the two.)
 pub(crate) fn is_block(src: &[u8], at: usize, stop: u8) -> bool
     ensures { result ≡ plain_block stop src.now at }
 {

@@ -37,7 +37,8 @@ fn run_at(src: &[u8], at: usize) -> usize
 // The place after the longest run of letters and digits at a place. (The answer would be the same
 // without the loop's test. With it, the load of eight bytes needs none. `chunks_exact(8)` is no
 // plainer: the answer is the place, so a count would stand beside the chunks, and the last bytes
-// are no whole chunk.)
+// are no whole chunk. `quotes::plain_end` has this loop for another test: one for both would take
+// the test, and is no plainer, as `spans::is_block` says.)
 pub fn word_end(src: &[u8], at: usize) -> usize
     ensures { result ≡ at + word_len (chars (drop at src.now)) }
 {
