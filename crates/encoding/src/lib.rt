@@ -3,34 +3,15 @@
 
 ghost use Rattle.std.specs.Prelude.{◌≡◌, length, get_or};
 ghost use Rattle.utf8.specs.Chars.{encode};
-ghost use Rattle.encoding.specs.Steps.{digit, lead};
+ghost use Rattle.encoding.specs.Steps.{lead};
 
 // How many bytes a code is written in, 0 where it is no Unicode scalar value. (No `Option`: it is
 // the length of the bytes that docs/DECISIONS.md gives such a code, which are none.)
-#[tactic(auto, using(crate::proofs::Written::lengths))]
+#[tactic(auto, unfolding(utf8::specs::Chars::encode, utf8::specs::Chars::octets))]
 pub fn encoded_len(code: u32) -> usize
     ensures { result ≡ length (encode code) }
 {
-    match code {
-        0..=0x7F => 1,
-        0x80..=0x7FF => 2,
-        0x800..=0xD7FF => 3,
-        0xE000..=0xFFFF => 3,
-        0x1_0000..=0x10_FFFF => 4,
-        _ => 0,
-    }
-}
-
-// A code without its last six bits, as often as `times` says.
-fn digit_of(code: u32, times: usize) -> u32
-    ensures { result ≡ digit code times }
-{
-    match times {
-        0 => code,
-        1 => code / 64,
-        2 => code / 4096,
-        _ => code / 262144,
-    }
+    char::from_u32(code).map_or(0, char::len_utf8)
 }
 
 // What the first of n bytes adds to the code's first bits.
@@ -53,7 +34,8 @@ pub fn encoded_byte(code: u32, k: usize) -> u8
     if n <= k {
         return 0;
     }
-    let bits = digit_of(code, n - 1 - k);
+    // the code without the bits of the bytes that follow, six each
+    let bits = code >> (6 * (n - 1 - k));
     if k == 0 {
         return ((lead_of(n) + bits) % 256) as u8;
     }

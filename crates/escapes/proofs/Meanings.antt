@@ -1,13 +1,12 @@
 -- What holds of characters and bytes, and of errors that are not 0, holds of what an escape gives.
-use Prim.Native.Nat.{ℕ, ◌≤◌}
+use Prim.Native.Nat.{ℕ}
 use Prim.Native.Char.{code}
-use mathlib.Core.Path.{◌≡◌, subst}
 use mathlib.Core.Bool.{true, false}
 use mathlib.Core.List.{List, [], ◌∷◌}
 use mathlib.Core.Logic.{◌≢◌}
 use native.Mathlib.Omega.{arith}
 use lib.Dec.{eqb, ltb}
-use borrow.Author.Tests.{eqb-false, ltb-false}
+use borrow.Author.Tests.{eqb-false}
 use Rattle.basics.proofs.Choice.{cond_ind}
 use Rattle.utf8.specs.declared.Char.{Char}
 use Rattle.utf8.specs.Chars.{is_scalar}
@@ -16,12 +15,12 @@ use Rattle.escapes.specs.Answers.{Meaning, character, no_character, Escape}
 use Rattle.escapes.specs.EscapeDigits.{Digits, escape_digits}
 use Rattle.escapes.specs.Escape.{letter, following, byte_of, code_point_of, octal_escape, hex_escape, escape_of}
 
-module _ (P : Meaning → Type 0) (char : (c : ℕ) → P (character c false)) (byte : (c : ℕ) → c ≤ 255 → P (character c true)) (bad : (error : ℕ) → error ≢ 0 → P (no_character error)) where
+module _ (P : Meaning → Type 0) (char : (c : ℕ) → P (character c false)) (byte : (c : ℕ) → P (character c true)) (bad : (error : ℕ) → error ≢ 0 → P (no_character error)) where
   byte_ind : (n : Digits) → P (byte_of n)
   unfolding byte_of
   byte_ind n =
       cond_ind P (eqb n.error 0) _ _
-      (λ _. cond_ind P (ltb 255 n.value) _ _ (λ _. bad _ (λ e. omega arith)) (λ e. byte n.value (ltb-false 255 n.value e)))
+      (λ _. cond_ind P (ltb 255 n.value) _ _ (λ _. bad _ (λ e. omega arith)) (λ _. byte n.value))
       (λ e. bad n.error (eqb-false n.error 0 e))
 
   code_ind : (n : Digits) → P (code_point_of n)
@@ -43,19 +42,10 @@ module _ (P : Meaning → Type 0) (char : (c : ℕ) → P (character c false)) (
       (λ _. cond_ind P (eqb c.code (code "x")) _ _ (λ _. byte_ind n) (λ _. code_ind n)))))
       (λ _. char (letter c.code))
 
--- ---- a byte that an escape gives is one
-abbrev Small : Meaning → Type 0
-Small (character c true) = c ≤ 255
-Small (character c false) = Unit {0}
-Small (no_character error) = Unit {0}
-
-pub escape_byte : (quote : ℕ) (r : List Char) (c : ℕ) → (escape_of quote r).meaning ≡ character c true → c ≤ 255
-escape_byte quote r c e = subst Small e (escape_ind Small (λ _. tt) (λ c l. l) (λ _ _. tt) quote r)
-
 -- ---- an escape that gives no character has an error
 abbrev pub HasError : Meaning → Type 0
 HasError (character c byte) = Unit {0}
 HasError (no_character error) = error ≢ 0
 
 pub escape_error : (quote : ℕ) (r : List Char) → HasError (escape_of quote r).meaning
-escape_error = escape_ind HasError (λ _. tt) (λ _ _. tt) (λ error e. e)
+escape_error = escape_ind HasError (λ _. tt) (λ _. tt) (λ error e. e)

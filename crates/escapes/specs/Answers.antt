@@ -1,9 +1,10 @@
 -- What the answer of an escape comes to.
-use Rattle.std.specs.Prelude.{ℕ, Bool, cond, List, [], ◌∷◌, Result, Ok, Err}
+use Rattle.std.specs.Prelude.{ℕ, Bool, true, false, cond, List, [], ◌∷◌, Result, Ok, Err}
 use Rattle.utf8.specs.Chars.{encode}
 use Rattle.errors.specs.declared.fault.Fault.{Fault}
 use Rattle.errors.specs.Faults.{fault_number}
 use Rattle.escapes.specs.declared.Given.{Given}
+use Rattle.escapes.specs.declared.Given.TheVariants.{Char, Byte}
 use Rattle.escapes.specs.declared.Escaped.{Escaped}
 
 pub data Meaning : Type 0 where
@@ -17,8 +18,17 @@ pub record Escape : Type 0 where
   pub len : ℕ
   pub meaning : Meaning
 
+-- the code of what is given, and whether it is that one byte
+abbrev pub code_of : Given → ℕ
+code_of (Char code) = code
+code_of (Byte byte) = byte
+
+abbrev pub is_byte : Given → Bool
+is_byte (Char code) = false
+is_byte (Byte byte) = true
+
 abbrev pub meaning_of : Result Given Fault → Meaning
-meaning_of (Ok given) = character given.code given.byte
+meaning_of (Ok given) = character (code_of given) (is_byte given)
 meaning_of (Err fault) = no_character (fault_number fault)
 
 abbrev pub says : Escaped → Escape

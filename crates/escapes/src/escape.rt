@@ -37,17 +37,17 @@ fn byte_of(n: EscapeDigits) -> Result<Given, Fault>
     ensures { meaning_of result ≡ byte_of (digits_said n) }
 {
     let code = n.value?;
-    if code > 0xFF {
+    let Ok(byte) = u8::try_from(code) else {
         return Err(OUT_OF_RANGE);
-    }
-    Ok(Given { code, byte: true })
+    };
+    Ok(Given::Byte(byte))
 }
 
 // Is a code a Unicode scalar value: no surrogate, and not above 10FFFF?
 fn is_scalar(code: u32) -> bool
     ensures { result ≡ is_scalar code }
 {
-    matches!(code, 0..=0xD7FF | 0xE000..=0x10FFFF)
+    char::from_u32(code).is_some()
 }
 
 // What digits give that stand for a code.
@@ -58,7 +58,7 @@ fn code_of(n: EscapeDigits) -> Result<Given, Fault>
     if !is_scalar(code) {
         return Err(OUT_OF_RANGE);
     }
-    Ok(Given { code, byte: false })
+    Ok(Given::Char(code))
 }
 
 // How many hexadecimal digits follow x, u or U.
@@ -120,7 +120,7 @@ fn single(code: u32) -> Escaped
 {
     Escaped {
         len: 1,
-        given: Ok(Given { code, byte: false }),
+        given: Ok(Given::Char(code)),
     }
 }
 

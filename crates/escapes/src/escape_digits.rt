@@ -15,7 +15,9 @@ pub(crate) struct EscapeDigits {
     pub(crate) value: Result<u32, Fault>,
 }
 
-// The value of exactly `count` digits below the base.
+// The value of exactly `count` digits below the base. The loop counts by hand: how many it read
+// before one that is missing is part of the answer, and what is missing, the byte or a digit, gives
+// the fault. An iterator over the bytes ends without either.
 pub(crate) fn digits_at(src: &[u8], at: usize, base: Base, count: usize) -> EscapeDigits
     requires { count ≤ 8 }
     ensures { digits_said result ≡ whole (escape_digits (base_number base) count 0 (chars (drop at src.now))) }

@@ -11,9 +11,9 @@ pub use escape::escape_at;
 
 // What an escape gives: a character by its code, or one byte.
 #[derive(Clone, Copy)]
-pub struct Given {
-    pub code: u32,
-    pub byte: bool,
+pub enum Given {
+    Char(u32),
+    Byte(u8),
 }
 
 // An escape: how many characters it has after the backslash, each of one byte where the quote is

@@ -1,5 +1,6 @@
 // What is read of the body of a quoted literal.
 ghost use Rattle.std.specs.Prelude.{◌≡◌, ◌+◌, ◌<◌, ◌^◌};
+ghost use Rattle.escapes.specs.Answers.{code_of, is_byte};
 ghost use Rattle.quotes.specs.Steps.{added, escape_piece, char_piece, plain_piece};
 
 use escapes::Given;
@@ -35,17 +36,16 @@ impl Content {
 
     // An escape of n characters.
     pub(crate) fn escape(n: usize, given: Given) -> Content
-        ensures { result ≡ escape_piece n given.code given.byte }
+        ensures { result ≡ escape_piece n (code_of given) (is_byte given) }
     {
-        let bytes = if given.byte {
-            1
-        } else {
-            encoding::encoded_len(given.code)
+        let (code, bytes) = match given {
+            Given::Char(code) => (code, encoding::encoded_len(code)),
+            Given::Byte(byte) => (byte as u32, 1),
         };
         Content {
             chars: n,
             count: 1,
-            code: given.code,
+            code,
             escaped: true,
             strays: 0,
             bytes,

@@ -1,12 +1,11 @@
 -- Laws of the text of a number, byte by byte.
-use Prim.Native.Nat.{ℕ, suc, ◌+◌, ◌-◌, ◌≤◌, ◌<◌}
-use mathlib.Core.Path.{◌≡◌, refl, sym, ap, ◌∙◌}
+use Prim.Native.Nat.{ℕ, ◌+◌, ◌≤◌, ◌<◌}
+use mathlib.Core.Path.{◌≡◌, refl, sym, ap}
 use mathlib.Core.Bool.{cond}
 use mathlib.Core.List.{List, [], ◌∷◌, ◌++◌}
 use native.Mathlib.Omega.{arith}
 use lib.Dec.{eqb}
-use lib.ListN.{length, get_or, take, drop, drop_of_length-le}
-use lib.Seq.{take-nil}
+use lib.ListN.{length, get_or, drop, drop_of_length-le}
 use borrow.Author.Tests.{eq-eqb, ne_eqb}
 use Rattle.basics.proofs.Lists.{drop_next}
 use Rattle.numbers.specs.declared.Spelling.{Spelling}
@@ -60,7 +59,7 @@ exponent k [] = refl
 exponent k (b ∷ bs) = ap (λ l. cond (eqb b 69) 101 b ∷ l) (exponent (k + 1) bs)
 
 -- byte by byte the text is the same
-number_text_lem : (spelling : Spelling) (bs : List ℕ) → number_text spelling bs ≡ spelled_from spelling 0 bs
+pub number_text_lem : (spelling : Spelling) (bs : List ℕ) → number_text spelling bs ≡ spelled_from spelling 0 bs
 unfolding spelled_byte spelled_from number_text
 number_text_lem AsRead bs = sym (as_read 0 bs)
 number_text_lem LowerPrefix [] = refl
@@ -70,27 +69,12 @@ number_text_lem OctalPrefix [] = refl
 number_text_lem OctalPrefix (a ∷ bs) = rw (after_o 1 bs (omega arith))
 number_text_lem LowerExponent bs = sym (exponent 0 bs)
 
--- the text of what is left of `count` bytes after k of them, the next at a place
-abbrev pub spelled_at : Spelling → ℕ → ℕ → List ℕ → ℕ → List ℕ
-spelled_at spelling count k s p = spelled_from spelling k (take (count - k) (drop p s))
-
-pub number_at : (spelling : Spelling) (count : ℕ) (s : List ℕ) (at : ℕ) → number_text spelling (take count (drop at s)) ≡ spelled_at spelling count 0 s at
-number_at spelling count s at =
-    let z : count ≡ count - 0 = omega arith in
-    number_text_lem spelling (take count (drop at s)) ∙ ap (λ n. spelled_from spelling 0 (take n (drop at s))) z
-
-module _ (spelling : Spelling) (count k : ℕ) (s : List ℕ) (p : ℕ) where
-  pub spelled_next : k < count → p < length s → spelled_at spelling count k s p ≡ spelled_byte spelling k (get_or s p 0) ++ spelled_at spelling count (k + 1) s (p + 1)
+-- ---- the text of what is left of the bytes after k of them
+module _ (spelling : Spelling) (k : ℕ) (bs : List ℕ) where
+  pub spelled_next : k < length bs → spelled_from spelling k (drop k bs) ≡ spelled_byte spelling k (get_or bs k 0) ++ spelled_from spelling (k + 1) (drop (k + 1) bs)
   unfolding spelled_from
-  spelled_next l h =
-      let one_more : count - k ≡ suc (count - (k + 1)) = omega arith in
-      ap (λ n. spelled_from spelling k (take n (drop p s))) one_more
-      ∙ ap (λ bs. spelled_from spelling k (take (suc (count - (k + 1))) bs)) (drop_next s p 0 h)
+  spelled_next h = ap (spelled_from spelling k) (drop_next bs k 0 h)
 
-  pub spelled_none : count ≤ k → spelled_at spelling count k s p ≡ []
+  pub spelled_end : length bs ≤ k → spelled_from spelling k (drop k bs) ≡ []
   unfolding spelled_from
-  spelled_none l = let z : count - k ≡ 0 = omega arith in ap (λ n. spelled_from spelling k (take n (drop p s))) z
-
-  pub spelled_end : length s ≤ p → spelled_at spelling count k s p ≡ []
-  unfolding spelled_from
-  spelled_end h = ap (λ bs. spelled_from spelling k (take (count - k) bs)) (drop_of_length-le s h) ∙ ap (spelled_from spelling k) (take-nil (count - k))
+  spelled_end h = ap (spelled_from spelling k) (drop_of_length-le bs h)

@@ -1,7 +1,7 @@
 -- Laws of the value of a string's body at a place.
 use Prim.Native.Nat.{ℕ, suc, ◌+◌, ◌≤◌, ◌<◌}
-use mathlib.Core.Path.{◌≡◌, sym, ap, ◌∙◌}
-use mathlib.Core.Bool.{Bool, true}
+use mathlib.Core.Path.{◌≡◌, ap, ◌∙◌}
+use mathlib.Core.Bool.{Bool}
 use mathlib.Core.List.{List, [], ◌++◌}
 use lib.Dec.{lit<}
 use lib.ListN.{length, get_or, drop}
@@ -11,7 +11,6 @@ use Rattle.utf8.proofs.First.{chars_end}
 use Rattle.escapes.specs.Answers.{Meaning, character, no_character, Escape, bytes_of}
 use Rattle.escapes.specs.Escape.{escape_of}
 use Rattle.quotes.specs.Body.{Body, escape, body_from, body}
-use Rattle.escapes.proofs.Meanings.{escape_byte}
 use Rattle.quotes.proofs.Reading.{at_quote, at_lf, at_slash, at_plain}
 
 abbrev value_of : Body → List ℕ
@@ -20,10 +19,6 @@ value_of b = b.value
 -- the value of the body at a place
 abbrev pub value_at : List ℕ → ℕ → List ℕ
 value_at s p = (body 34 (chars (drop p s))).value
-
--- an escape that gives a byte
-pub given_byte : (r : List Char) (x : Escape) (code : ℕ) (byte : Bool) → x ≡ escape_of 34 r → x.meaning ≡ character code byte → byte ≡ true → code ≤ 255
-given_byte r x code byte is g t = escape_byte 34 r code (ap (λ y. y.meaning) (sym is) ∙ g ∙ ap (character code) t)
 
 module _ (s : List ℕ) (p : ℕ) where
   pub value_end : length s ≤ p → value_at s p ≡ []

@@ -37,6 +37,14 @@ fn put_spelled(spelling: Spelling, k: usize, b: u8, area: &mut [u8], to: usize) 
     }
 }
 
+// The bytes at a place, so many of them, or as many as there are.
+fn bytes_at(src: &[u8], at: usize, count: usize) -> &[u8]
+    ensures { result.now ≡ take count (drop at src.now) }
+{
+    let left = src.get(at..).unwrap_or(&[]);
+    left.get(..count).unwrap_or(left)
+}
+
 // The text of a number of so many bytes at a place.
 pub fn write_number(
     src: &[u8],
@@ -49,10 +57,7 @@ pub fn write_number(
     ensures { area.new ≡ sets area.old to (number_text spelling (take count (drop at src.now))) }
 {
     let mut n = to;
-    for k in 0..count {
-        let Some(&b) = src.get(at + k) else {
-            return;
-        };
+    for (k, &b) in bytes_at(src, at, count).iter().enumerate() {
         n = put_spelled(spelling, k, b, area, n);
     }
 }

@@ -1,8 +1,8 @@
 // The value of a string.
-ghost use Rattle.std.specs.Prelude.{◌≤◌, ◌≡◌, true, drop};
+ghost use Rattle.std.specs.Prelude.{◌≡◌, Ok, drop};
 ghost use Rattle.std.proofs.lemmas.List.Edits.{sets};
 ghost use Rattle.utf8.specs.Chars.{chars};
-ghost use Rattle.escapes.specs.Answers.{character, bytes_of};
+ghost use Rattle.escapes.specs.Answers.{meaning_of, bytes_of};
 ghost use Rattle.quotes.specs.Body.{body};
 ghost use Rattle.quotes.specs.Literal.{double_quote};
 ghost use Rattle.writing.specs.Written.{raw_count, raw_value};
@@ -14,13 +14,11 @@ use escapes::Given;
 
 // Writes what an escape gives, and answers the place after it.
 fn put_given(given: Given, area: &mut [u8], to: usize) -> usize
-    requires { given.byte ≡ true → given.code ≤ 255 }
-    ensures { Writes area.old to (bytes_of (character given.code given.byte)) area.new result }
+    ensures { Writes area.old to (bytes_of (meaning_of (Ok given))) area.new result }
 {
-    if given.byte {
-        put(area, to, given.code as u8)
-    } else {
-        put_code(area, to, given.code)
+    match given {
+        Given::Char(code) => put_code(area, to, code),
+        Given::Byte(byte) => put(area, to, byte),
     }
 }
 

@@ -5,7 +5,7 @@ use lib.ListN.{length, get_or, drop}
 use Rattle.utf8.proofs.First.{there_fits, there_least}
 use Rattle.utf8.specs.Chars.{chars}
 use Rattle.escapes.specs.Escape.{escape_of}
-use Rattle.escapes.specs.Answers.{character, no_character, meaning_of, says}
+use Rattle.escapes.specs.Answers.{character, no_character, code_of, is_byte, meaning_of, says}
 use Rattle.errors.specs.Faults.{fault_number}
 use Rattle.quotes.specs.Steps.{quote_code, escape_piece, char_piece, plain_piece}
 use Rattle.escapes.proofs.Sizes.{escape_gives}
@@ -77,18 +77,18 @@ returns-in_default c =
 -- what it gives is no longer than twice the escape
 sized : (c : In-Ok)
     → let n = c.escape_at-e.result.len + 1 in
-    Sized n (escape_piece n c.in-Ok.given.code c.in-Ok.given.byte)
+    Sized n (escape_piece n (code_of c.in-Ok.given) (is_byte c.in-Ok.given))
 sized c =
     let x = c.escape_at-e in
     let v = c.in-Ok in
-    escape_sized (x.result.len + 1) v.given.code v.given.byte (one_le _)
-    (escape_gives _ _ (says x.result) (character v.given.code v.given.byte) (rw c.byte-close.ensures at c.escape_at-e.ensures) (ap meaning_of v.is))
+    escape_sized (x.result.len + 1) (code_of v.given) (is_byte v.given) (one_le _)
+    (escape_gives _ _ (says x.result) (character (code_of v.given) (is_byte v.given)) (rw c.byte-close.ensures at c.escape_at-e.ensures) (ap meaning_of v.is))
 
 pub with-content-requires : goal.with-content-requires
 with-content-requires c =
     let v = c.in-Ok in
     rw c.escape.ensures
-    (room_add c.loop-p.p _ _ c.loop-p.content (escape_piece _ v.given.code v.given.byte) c.loop-p.invariant.0 (sized (goal.at.with-content-requires c).In-Ok) (fits (goal.at.with-content-requires c).After-escape_at-e) (short (goal.at.with-content-requires c).At-loop-p))
+    (room_add c.loop-p.p _ _ c.loop-p.content (escape_piece _ (code_of v.given) (is_byte v.given)) c.loop-p.invariant.0 (sized (goal.at.with-content-requires c).In-Ok) (fits (goal.at.with-content-requires c).After-escape_at-e) (short (goal.at.with-content-requires c).At-loop-p))
 
 pub overflow_add-p-then-b-eq92-2 : goal.overflow_add-p-then-b-eq92-2
 overflow_add-p-then-b-eq92-2 c = record { fits = fit64 _ _ (fits (goal.at.overflow_add-p-then-b-eq92-2 c).After-escape_at-e) (short (goal.at.overflow_add-p-then-b-eq92-2 c).At-loop-p) }
@@ -102,12 +102,12 @@ loop-p-preserved-then-b-eq92 c =
     let quote = quote_code a.quote in
     let low = quote_low a.quote in
     let n = x.result.len + 1 in
-    let w = added_within c.loop-p.p n _ c.loop-p.content (escape_piece n v.given.code v.given.byte) c.loop-p.invariant.0 (sized (goal.at.loop-p-preserved-then-b-eq92 c).In-Ok) (fits (goal.at.loop-p-preserved-then-b-eq92 c).After-escape_at-e) in
+    let w = added_within c.loop-p.p n _ c.loop-p.content (escape_piece n (code_of v.given) (is_byte v.given)) c.loop-p.invariant.0 (sized (goal.at.loop-p-preserved-then-b-eq92 c).In-Ok) (fits (goal.at.loop-p-preserved-then-b-eq92 c).After-escape_at-e) in
     rw (c.with-content.ensures, c.escape.ensures) (
       w.0,
       w.1,
       c.loop-p.invariant.2
-          ∙ step_escape quote low a.src.now c.loop-p.p c.loop-p.content c.loop-p-test.true (no_quote (goal.at.loop-p-preserved-then-b-eq92 c).Else-b-close) slash (says x.result) (escape_is (goal.at.loop-p-preserved-then-b-eq92 c).After-escape_at-e) v.given.code v.given.byte (ap meaning_of v.is),
+          ∙ step_escape quote low a.src.now c.loop-p.p c.loop-p.content c.loop-p-test.true (no_quote (goal.at.loop-p-preserved-then-b-eq92 c).Else-b-close) slash (says x.result) (escape_is (goal.at.loop-p-preserved-then-b-eq92 c).After-escape_at-e) (code_of v.given) (is_byte v.given) (ap meaning_of v.is),
     )
 
 -- ---- a run of plain characters

@@ -7,7 +7,7 @@ use Rattle.escapes.specs.Answers.{meaning_of, says}
 use Rattle.quotes.proofs.Bounds.{fit64, right_part, less}
 use Rattle.quotes.proofs.Places.{escape_fits}
 use Rattle.writing.proofs.Areas.{left_as, finished}
-use Rattle.writing.proofs.Values.{given_byte, value_end, value_quote, value_lf, value_bad, value_escape, value_plain}
+use Rattle.writing.proofs.Values.{value_end, value_quote, value_lf, value_bad, value_escape, value_plain}
 use Rattle.writing.proofs.value.write_interpreted.Goals as goal
 use Rattle.writing.proofs.value.write_interpreted.Goals.{After-char_at-c, After-escape_at-e, At-loop-p}
 
@@ -38,11 +38,6 @@ pub returns-in_default : goal.returns-in_default
 returns-in_default c =
     let x = c.escape_at-e in
     finished c.loop-p.area c.loop-p.n c.loop-p.invariant (value_bad _ c.loop-p.p c.loop-p-test.true c.if-b-eq34.false c.if-b-eq92.true (says x.result) x.ensures _ (ap meaning_of c.in_default.is))
-
-pub put_given-n-requires : goal.put_given-n-requires
-put_given-n-requires c =
-    let x = c.escape_at-e in
-    given_byte _ (says x.result) _ _ x.ensures (ap meaning_of c.in-Ok.is)
 
 pub overflow_add-p-then-b-eq92 : goal.overflow_add-p-then-b-eq92
 overflow_add-p-then-b-eq92 c =
