@@ -1,5 +1,6 @@
 // The exported function: it answers the number of its refusal, or 0, and writes what it gives to
-// lent slices. A refusal writes nothing.
+// lent slices. A refusal writes nothing. (`answered` of `refusal` does not serve here: the scans
+// write a state and a count.)
 ghost use Rattle.std.specs.Prelude.{◌≡◌};
 ghost use Rattle.batch_c.specs.Many.{scan_many_numbers};
 

@@ -17,12 +17,22 @@ pub struct Error {
 // How many numbers a record has.
 pub(crate) const WIDTH: usize = 4;
 
+impl Error {
+    // The numbers of its record, in their order.
+    #[tactic(auto, unfolding(crate::specs::Layout::numbers))]
+    pub fn numbers(self) -> [usize; WIDTH]
+        ensures { result ≡ numbers self }
+    {
+        [self.offset, self.line, self.column, self.number]
+    }
+}
+
 // Writes an error as the record at a place.
 pub(crate) fn write(list: &mut [usize], at: usize, error: Error)
     requires { at + width ≤ length list.old }
     ensures { list.new ≡ sets list.old at (numbers error) }
 {
-    list[at..at + WIDTH].copy_from_slice(&[error.offset, error.line, error.column, error.number]);
+    list[at..at + WIDTH].copy_from_slice(&error.numbers());
 }
 
 // The error whose record is at a place.

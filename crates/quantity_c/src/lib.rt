@@ -3,18 +3,15 @@
 // an answer is refused by 6, and nothing is written.
 #![tactic(auto)]
 
-ghost use Rattle.std.specs.Prelude.{◌≡◌, ◌≤◌, length};
-ghost use Rattle.std.proofs.lemmas.List.Edits.{sets};
+ghost use Rattle.std.specs.Prelude.{◌≡◌};
 ghost use Rattle.quantity_c.specs.Number.{quantity_numbers, number_numbers};
 ghost use Rattle.quantity_c.specs.Steps.{kind_of};
 
 use kinds::Kind;
 use parts::{Token, part_in};
 use quantity::Quantity;
-use refusal::{Refusal, too_short};
-
-// How many numbers a quantity is.
-const QUANTITY: usize = 2;
+use refusal::answered;
+use state::number_at;
 
 // The kind that a number is; a number that is too large for one is no kind.
 fn kind_of(n: usize) -> u8
@@ -23,13 +20,11 @@ fn kind_of(n: usize) -> u8
     u8::try_from(n).unwrap_or(Kind::None as u8)
 }
 
-// Writes a quantity to the front of a slice.
-fn put_quantity(q: Quantity, n: &mut [usize])
-    requires { 2 ≤ length n.old }
-    ensures { n.new ≡ sets n.old 0 (quantity_numbers q) }
+// A quantity in numbers.
+fn quantity_numbers(q: Quantity) -> [usize; 2]
+    ensures { result ≡ quantity_numbers q }
 {
-    n[0] = q.m as usize;
-    n[1] = usize::from(q.k);
+    [q.m as usize, usize::from(q.k)]
 }
 
 // The number behind a token that is an INT or a FLOAT. The source is the one that was scanned, the
@@ -44,14 +39,8 @@ pub extern "C" fn scanner_number<'a>(
     ensures { record { refusal = result; answer = answer.new }
         ≡ number_numbers src.now area.now token.now answer.old }
 {
-    if too_short(token.len(), Token::NUMBERS, answer.len(), QUANTITY) {
-        return Refusal::DoesNotFit.number();
-    }
-    match quantity_query::number(src, area, kind_of(token[0]), part_in(token, Token::TEXT)) {
-        Ok(q) => {
-            put_quantity(q, answer);
-            0
-        }
-        Err(refusal) => refusal.number(),
-    }
+    let kind = kind_of(number_at(token, 0));
+    let text = part_in(token, Token::TEXT);
+    let outcome = quantity_query::number(src, area, kind, text).map(quantity_numbers);
+    answered(token, Token::NUMBERS, outcome, answer)
 }

@@ -1,6 +1,7 @@
 -- What is answered in numbers, by what a question gives.
 use Prim.Native.Nat.{ℕ}
 use Rattle.std.specs.Prelude.{Result, Ok, Err, Some, None, unwrap_or, Option as Optional}
+use Rattle.std.specs.Result.{result_and}
 use Rattle.std.specs.Borrow.{Bor}
 use mathlib.Core.Path.{◌≡◌, refl, ap, ◌∙◌}
 use mathlib.Core.Bool.{Bool, true, false, cond, ◌&&◌}
@@ -48,7 +49,7 @@ unfolding shown_of
 by_six src area p = either_by_six p.area (shown_in area p) (shown_in src p) (in_six area p) (in_six src p)
 
 pub part_shown : (src area : List ℕ) (p : Part) (o : Result (Bor (List ℕ)) Refusal) → shown_as o ≡ shown_of src area p → (answer : List ℕ)
-    → answered_by (λ _. part_numbers p) (outcome_of o) answer ≡ answered_by part_numbers (in_buffer src area p) answer
+    → answered_by (λ numbers. numbers) (outcome_of (result_and o (Ok (part_numbers p)))) answer ≡ answered_by part_numbers (in_buffer src area p) answer
 part_shown src area p (Ok b) e answer = rw (← e)
 part_shown src area p (Err r) e answer =
     let n : refusal_number r ≡ (shown_of src area p).refusal = ap (λ (s : Shown). s.refusal) e in

@@ -1,18 +1,28 @@
-// A position and a part in three numbers, an error in four.
-ghost use Rattle.std.specs.Prelude.{◌≡◌, ◌≤◌, length};
-ghost use Rattle.std.proofs.lemmas.List.Edits.{sets};
+// What the questions give, in numbers. Each has a function with a name, since a contract says what
+// its array holds; of an array that a closure gives a caller knows nothing.
+ghost use Rattle.std.specs.Prelude.{◌≡◌, [], ◌∷◌};
+ghost use Rattle.parts.specs.Layout.{part_numbers};
 ghost use Rattle.queries_c.specs.Steps.{optional_numbers};
 
 use errors::Error;
+use parts::Part;
+use position::Position;
+use state::bit_of;
 
-pub(crate) const POSITION: usize = 3;
+pub(crate) fn position_numbers(at: Position) -> [usize; 3]
+    ensures { result ≡ at.offset ∷ at.line ∷ at.column ∷ [] }
+{
+    [at.offset, at.line, at.column]
+}
 
-pub(crate) const ERROR: usize = 4;
+pub(crate) fn start_numbers(start: usize) -> [usize; 1]
+    ensures { result ≡ start ∷ [] }
+{
+    [start]
+}
 
-pub(crate) const PART: usize = 3;
-
-// The numbers of an error; four zeros where there is none.
-pub(crate) fn error_numbers(error: Option<Error>) -> [usize; ERROR]
+// Four zeros where there is no error.
+pub(crate) fn error_numbers(error: Option<Error>) -> [usize; 4]
     ensures { result ≡ optional_numbers error }
 {
     let e = error.unwrap_or(Error {
@@ -21,13 +31,11 @@ pub(crate) fn error_numbers(error: Option<Error>) -> [usize; ERROR]
         column: 0,
         number: 0,
     });
-    [e.offset, e.line, e.column, e.number]
+    e.numbers()
 }
 
-// Writes numbers to the front of a slice.
-pub(crate) fn put<const N: usize>(numbers: [usize; N], slice: &mut [usize])
-    requires { N ≤ length slice.old }
-    ensures { slice.new ≡ sets slice.old 0 numbers.entry }
+pub(crate) fn part_numbers(part: Part) -> [usize; 3]
+    ensures { result ≡ part_numbers part }
 {
-    slice[..N].copy_from_slice(&numbers);
+    [bit_of(part.area), part.start, part.end]
 }

@@ -1,6 +1,7 @@
 // The exported function that opens a source. It answers the number of its refusal, or 0, and writes
 // what it gives to lent slices. A slice that is too short for a state or an answer is refused by 6,
-// and nothing is written.
+// and nothing is written. (`answered` of `refusal` does not serve here: opening writes a state and a
+// number, and a refusal writes a place.)
 ghost use Rattle.std.specs.Prelude.{◌≡◌};
 ghost use Rattle.queries_c.specs.Open.{open_numbers};
 

@@ -1,13 +1,11 @@
 // The exported questions about the state that the first nine numbers of a slice are. Each answers
 // the number of its refusal, or 0, and writes what it gives to a lent slice. A slice that is too
-// short for a state or an answer is refused by 6, and nothing is written. (Each has a `match` of
-// its own. One function for all, with a closure that gives the numbers, was tried: its proof did
-// not close, since nothing tells what an array from a closure holds.)
+// short for a state or an answer is refused by 6, and nothing is written.
 ghost use Rattle.std.specs.Prelude.{◌≡◌};
 ghost use Rattle.queries_c.specs.Questions.{position_numbers, line_start_numbers, error_numbers};
 
-use crate::layout::{ERROR, POSITION, error_numbers, put};
-use refusal::{Refusal, too_short};
+use crate::layout::{error_numbers, position_numbers, start_numbers};
+use refusal::answered;
 use state::{State, state_in};
 
 // The offset, line and column of a position.
@@ -20,16 +18,8 @@ pub extern "C" fn scanner_position(
 ) -> u8
     ensures { record { refusal = result; answer = answer.new } ≡ position_numbers state.now table.now p answer.old }
 {
-    if too_short(state.len(), State::NUMBERS, answer.len(), POSITION) {
-        return Refusal::DoesNotFit.number();
-    }
-    match queries::position(state_in(state), table, p) {
-        Ok(at) => {
-            put([at.offset, at.line, at.column], answer);
-            0
-        }
-        Err(refusal) => refusal.number(),
-    }
+    let outcome = queries::position(state_in(state), table, p).map(position_numbers);
+    answered(state, State::NUMBERS, outcome, answer)
 }
 
 // The position at which a line starts.
@@ -42,16 +32,8 @@ pub extern "C" fn scanner_line_start(
 ) -> u8
     ensures { record { refusal = result; answer = answer.new } ≡ line_start_numbers state.now table.now line answer.old }
 {
-    if too_short(state.len(), State::NUMBERS, answer.len(), 1) {
-        return Refusal::DoesNotFit.number();
-    }
-    match queries::line_start(state_in(state), table, line) {
-        Ok(start) => {
-            put([start], answer);
-            0
-        }
-        Err(refusal) => refusal.number(),
-    }
+    let outcome = queries::line_start(state_in(state), table, line).map(start_numbers);
+    answered(state, State::NUMBERS, outcome, answer)
 }
 
 // The offset, line, column and number of the error at an index, from 0; four zeros where there is
@@ -65,14 +47,6 @@ pub extern "C" fn scanner_error(
 ) -> u8
     ensures { record { refusal = result; answer = answer.new } ≡ error_numbers state.now list.now index answer.old }
 {
-    if too_short(state.len(), State::NUMBERS, answer.len(), ERROR) {
-        return Refusal::DoesNotFit.number();
-    }
-    match queries::error(state_in(state), list, index) {
-        Ok(error) => {
-            put(error_numbers(error), answer);
-            0
-        }
-        Err(refusal) => refusal.number(),
-    }
+    let outcome = queries::error(state_in(state), list, index).map(error_numbers);
+    answered(state, State::NUMBERS, outcome, answer)
 }

@@ -5,10 +5,9 @@
 ghost use Rattle.std.specs.Prelude.{◌≡◌};
 ghost use Rattle.queries_c.specs.Parts.{part_at, text_numbers, value_numbers};
 
-use crate::layout::{PART, put};
+use crate::layout::part_numbers;
 use parts::{Token, part_in};
-use refusal::{Refusal, too_short};
-use state::bit_of;
+use refusal::answered;
 
 // The part at an index among the numbers of a token, if it lies in its buffer.
 fn answer_part<'a>(
@@ -21,17 +20,9 @@ fn answer_part<'a>(
     ensures { record { refusal = result; answer = answer.new }
         ≡ part_at at src.now area.now token.now answer.old }
 {
-    if too_short(token.len(), Token::NUMBERS, answer.len(), PART) {
-        return Refusal::DoesNotFit.number();
-    }
     let part = part_in(token, at);
-    match parts::shown(src, area, part) {
-        Ok(_) => {
-            put([bit_of(part.area), part.start, part.end], answer);
-            0
-        }
-        Err(refusal) => refusal.number(),
-    }
+    let outcome = parts::shown(src, area, part).and(Ok(part_numbers(part)));
+    answered(token, Token::NUMBERS, outcome, answer)
 }
 
 // The text of a token. The source is the one that was scanned, the area as the token's own scan

@@ -1,3 +1,4 @@
+pub mod InNumbers
 pub mod Lengths
 pub mod Numbers
 pub mod Outcomes

@@ -1,11 +1,13 @@
 // Why a call is refused, and the test for slices that are too short.
 #![tactic(auto)]
 
+mod answer;
 mod short;
 
 ghost use Rattle.std.specs.Prelude.{◌≡◌};
 ghost use Rattle.refusal.specs.Outcome.{refusal_number};
 
+pub use answer::answered;
 pub use short::too_short;
 
 // Why a call is refused.

@@ -1,6 +1,6 @@
 // The exported function: it answers the number of its refusal, or 0, and writes what it gives to
 // lent slices. A slice that is too short for a state or a token is refused by 6, and nothing is
-// written.
+// written. (`answered` of `refusal` does not serve here: a scan writes a state and a token.)
 ghost use Rattle.std.specs.Prelude.{◌≡◌};
 ghost use Rattle.scanner_c.specs.Calls.{scan_numbers};
 

@@ -12,5 +12,5 @@ unfolding numbers
 returns c =
     let a = c.args in
     let four : a.at + width - a.at ≡ width = omega arith in
-    ap (λ vs. put_mid a.at (a.at + width - a.at) a.list.now vs) (c.copy_from_slice.ensures.after)
+    ap (λ vs. put_mid a.at (a.at + width - a.at) a.list.now vs) (c.copy_from_slice.ensures.after ∙ c.numbers.ensures)
     ∙ part_set a.list.now a.at (a.at + width - a.at) (numbers a.error) four c.requires

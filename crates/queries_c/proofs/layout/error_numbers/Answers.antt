@@ -6,4 +6,4 @@ use Rattle.queries_c.proofs.layout.error_numbers.Goals as goal
 
 pub returns : goal.returns
 unfolding numbers
-returns c = ap numbers c.unwrap_or-e.ensures ∙ optional c.args.error
+returns c = c.numbers.ensures ∙ ap numbers c.unwrap_or-e.ensures ∙ optional c.args.error

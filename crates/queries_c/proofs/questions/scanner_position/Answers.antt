@@ -1,21 +1,12 @@
--- `questions::scanner_position` meets its contract: past the test of lengths the state in the numbers is asked.
-use mathlib.Core.Path.{sym, ◌∙◌}
-use native.Mathlib.Omega.{arith}
-use Rattle.refusal.proofs.Lengths.{long_enough}
+-- `questions::scanner_position` meets its contract: the state in the numbers is asked.
+use mathlib.Core.List.{[], ◌∷◌}
+use Rattle.position.specs.declared.Position.{Position}
+use Rattle.refusal.proofs.InNumbers.{in_numbers}
 use Rattle.queries_c.specs.Questions.{position_numbers}
 use Rattle.queries_c.proofs.questions.scanner_position.Goals as goal
 
-pub returns-then-too_short : goal.returns-then-too_short
+pub returns : goal.returns
 unfolding position_numbers
-returns-then-too_short c = rw (c.number.ensures, sym c.too_short.ensures ∙ c.if-too_short.true)
-
-pub put-requires : goal.put-requires
-put-requires c = (omega arith, (long_enough _ _ _ _ c.too_short.ensures c.if-too_short.false).1)
-
-pub returns-in-Ok : goal.returns-in-Ok
-unfolding position_numbers
-returns-in-Ok c = rw (c.put.ensures, sym c.too_short.ensures ∙ c.if-too_short.false, ← c.state_in.ensures, ← c.position.ensures, c.in-Ok.is)
-
-pub returns-in-Err : goal.returns-in-Err
-unfolding position_numbers
-returns-in-Err c = rw (c.number-in-Err.ensures, sym c.too_short.ensures ∙ c.if-too_short.false, ← c.state_in.ensures, ← c.position.ensures, c.in-Err.is)
+returns c =
+    let e = in_numbers (λ (q : Position). q.offset ∷ q.line ∷ q.column ∷ []) _ _ c.map-outcome.ensures.cases c.args.answer.now in
+    rw (c.answered.ensures, e, c.position.ensures, c.state_in.ensures)

@@ -1,10 +1,10 @@
--- `layout::put` meets its contract: the numbers go to the front.
+-- `answer::put` meets its contract: the numbers go to the front.
 use mathlib.Core.Path.{◌≡◌, sym, ap, ◌∙◌}
 use native.Mathlib.Omega.{arith}
 use native.Mathlib.Nat.{zero-add}
 use lib.ListN.{length}
 use lib.Seq.{sets-eq, length-take-le}
-use Rattle.queries_c.proofs.layout.put.Goals as goal
+use Rattle.refusal.proofs.answer.put.Goals as goal
 
 pub returns : goal.returns
 returns g c =
