@@ -7,11 +7,12 @@ use native.Mathlib.Omega.{arith}
 use native.Mathlib.Decide.{dec_lt}
 use native.Mathlib.Nat.{not-suc-le-zero}
 use lib.ListN.{length, get_or, take, drop}
-use borrow.Author.Tests.{lt-ltb, ne_eqb}
+use borrow.Author.Tests.{ne_eqb}
 use Rattle.basics.proofs.Lists.{drop_next}
 use Rattle.utf8.specs.declared.Char.{Char}
-use Rattle.utf8.specs.Chars.{ended, chars, widths, is_stray, octets, encode, encoded}
+use Rattle.utf8.specs.Chars.{ended, chars, widths, is_stray, encoded}
 use Rattle.utf8.proofs.First.{chars_at, chars_end, chars_ascii, low_byte}
+use Rattle.utf8.proofs.Encoding.{encode_ascii}
 use Rattle.utf8.specs.Count.{is_lf, count}
 
 -- the first n characters are ASCII, and none is a line feed
@@ -28,10 +29,6 @@ pub record AsciiFacts (n : ℕ) (s : List ℕ) (p : ℕ) : Type 0 where
   pub strays : count is_stray (take n (chars (drop p s))) ≡ 0
   pub shown : encoded (take n (chars (drop p s))) ≡ take n (drop p s)
   pub size : length (encoded (take n (chars (drop p s)))) ≡ n
-
-pub encode_ascii : (b : ℕ) → b < 0x80 → encode b ≡ b ∷ []
-unfolding encode octets
-encode_ascii b h = rw (lt-ltb b 0xD800 (omega arith), lt-ltb b 0x80 h)
 
 -- one ASCII character, and more after it
 module _ (k : ℕ) (s : List ℕ) (p : ℕ) (h : p < length s) (low : get_or s p 0 < 0x80) (no_lf : get_or s p 0 ≢ 10) (more : AsciiFacts k s (p + 1)) where

@@ -16,6 +16,7 @@ use Rattle.basics.proofs.Lists.{same_refl, same_length}
 use Rattle.utf8.specs.declared.Char.{Char}
 use Rattle.utf8.specs.Chars.{ended, chars, octets, encode, encoded}
 use Rattle.utf8.proofs.Places.{place_fits}
+use Rattle.utf8.proofs.Encoding.{encode_ascii}
 use Rattle.std.specs.Prelude.{Option}
 use Rattle.kinds.specs.Kinds.{STRING}
 use Rattle.kinds.specs.declared.kind.Kind.{Kind}
@@ -35,7 +36,7 @@ use Rattle.lexer.specs.Made.{shown_as, no_value, gained_by, respelled_by}
 use Rattle.lexer.specs.Making.{is_number, spelling_of}
 use Rattle.lexer.specs.Placed.{text_differs_in, placed, said}
 use Rattle.lexer.proofs.Said.{alike, exact_length, text_same, text_some}
-use Rattle.lexer.proofs.Ascii.{AsciiFacts, encode_ascii, ascii_facts}
+use Rattle.lexer.proofs.Ascii.{AsciiFacts, ascii_facts}
 use Rattle.lexer.proofs.Ways.{way_number, number_taken}
 use Rattle.lexer.proofs.NumberStarts.{some_read, two_read}
 

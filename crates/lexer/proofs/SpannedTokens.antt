@@ -11,6 +11,7 @@ use Rattle.utf8.specs.declared.Char.{Char}
 use Rattle.utf8.specs.Chars.{chars, peek, widths, is_stray}
 use Rattle.utf8.proofs.First.{chars_le}
 use Rattle.utf8.proofs.Places.{place_fits}
+use Rattle.utf8.proofs.Ends.{peek_take}
 use Rattle.std.specs.Prelude.{Option, Some, None}
 use Rattle.kinds.specs.Kinds.{STRING, COMMENT}
 use Rattle.kinds.specs.declared.kind.Kind.{Kind}
@@ -43,7 +44,7 @@ use Rattle.lexer.specs.Making.{text_way, value_way}
 use Rattle.lexer.specs.Placed.{text_of, value_of, text_differs_in, length_of, said, placed}
 use Rattle.lexer.proofs.Said.{alike, exact_with_strays, text_some, semicolon_said}
 use Rattle.lexer.proofs.Opened.{lexeme_as, Opened, opened_raw, opened_comment, open_chars, comment_chars, inside_token}
-use Rattle.lexer.proofs.Ways.{first_taken, way_without_cr, way_with_lf}
+use Rattle.lexer.proofs.Ways.{way_without_cr, way_with_lf}
 
 -- a token by its body, with what the code sets itself
 abbrev pub body_as : Body → ℕ → Kind → Option Fault → Bool → Shown Text → Shown Value → Lexed
@@ -197,7 +198,7 @@ module _ (s : List ℕ) (at : ℕ) (there : get_or s at 0 ≡ 96) (b : Body) (is
       )
 
   raw_first : peek raw_read ≡ 96
-  raw_first = first_taken (1 + raw_span.len) (chars (drop at s)) (omega arith) ∙ ap peek (open_chars s at 96 (omega arith) (omega arith) there)
+  raw_first = peek_take (1 + raw_span.len) (chars (drop at s)) (omega arith) ∙ ap peek (open_chars s at 96 (omega arith) (omega arith) there)
 
   raw_said : (error : Option Fault) → cond raw_span.closed 0 OPEN_RAW_STRING ≡ error_number error → (inside : ℕ) → inside + 2 * b.strays ≡ length raw_value
       → differs_of b ≡ not (same raw_value (take (widths (take raw_span.len (chars (drop (at + 1) s))) - cond (eqb (error_number error) OPEN_RAW_STRING) 0 1) (drop (at + 1) s)))
@@ -252,7 +253,7 @@ module _ (s : List ℕ) (at : ℕ) (there : get_or s at 0 ≡ 96) (b : Body) (is
 module _ (s : List ℕ) (at : ℕ) (first : get_or s at 0 ≡ 47) (mark : Bool) (b : Body) where
   -- closed or not, where only the text may differ
   comment_first : (x k : ℕ) → 0 < x → x < 0x80 → get_or s (at + 1) 0 ≡ x → peek (take (2 + k) (chars (drop at s))) ≡ 47
-  comment_first x k z l e = first_taken (2 + k) (chars (drop at s)) (omega arith) ∙ ap peek (comment_chars s at x z l first e)
+  comment_first x k z l e = peek_take (2 + k) (chars (drop at s)) (omega arith) ∙ ap peek (comment_chars s at x z l first e)
 
   comment_said : (x : ℕ) → 13 < x → x < 0x80 → get_or s (at + 1) 0 ≡ x → (sp : Span) → b ≡ body_of (at + 2) sp (chars (drop (at + 2) s)) → (error : Option Fault)
       → said s at (body_as b 2 Comment error mark (clean_as b at) no_value)

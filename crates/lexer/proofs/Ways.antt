@@ -14,6 +14,7 @@ use Rattle.basics.proofs.Lists.{same_refl, same_length}
 use Rattle.utf8.specs.declared.Char.{Char}
 use Rattle.utf8.specs.Chars.{chars, peek, encoded}
 use Rattle.utf8.proofs.Places.{ascii_only, test_next}
+use Rattle.utf8.proofs.Ends.{peek_take}
 use Rattle.kinds.specs.Kinds.{COMMENT}
 use Rattle.digits.specs.Digit.{is_decimal}
 use Rattle.words.specs.Word.{is_letter, is_word, word_len}
@@ -45,12 +46,7 @@ module _ (cs : List Char) (x : Lexeme) (some : 0 < length x.text) where
           let fed : List ℕ = clean cs ++ (10 ∷ []) in
           rw (has_text, no_number, spanned, e, same_length fed (clean cs) (λ z. omega (arith, z, length-append (clean cs) (10 ∷ []))))
 
--- ---- the first characters of those read are those of the text
-pub first_taken : (n : ℕ) (r : List Char) → 0 < n → peek (take n r) ≡ peek r
-first_taken zero r h = absurd (omega arith)
-first_taken (suc n) [] h = refl
-first_taken (suc n) (c ∷ r) h = refl
-
+-- ---- the second character of those read is that of the text
 second_taken : (n : ℕ) (r : List Char) → 1 < n → peek (drop 1 (take n r)) ≡ peek (drop 1 r)
 second_taken zero r h = absurd (omega arith)
 second_taken (suc zero) r h = absurd (omega arith)
@@ -61,8 +57,8 @@ second_taken (suc (suc n)) (c ∷ d ∷ r) h = refl
 -- a number of n characters: two where it starts with a point
 pub number_taken : (n : ℕ) (r : List Char) → is_number r ≡ true → 0 < n → (is_decimal (peek r) ≡ false → 1 < n) → is_number (take n r) ≡ true
 number_taken n r t some two =
-    ⊎_elim (λ (d : is_decimal (peek r) ≡ true). rw (first_taken n r some, d))
-    (λ (d : is_decimal (peek r) ≡ false). rw (first_taken n r some, second_taken n r (two d)) t) (either (is_decimal (peek r)))
+    ⊎_elim (λ (d : is_decimal (peek r) ≡ true). rw (peek_take n r some, d))
+    (λ (d : is_decimal (peek r) ≡ false). rw (peek_take n r some, second_taken n r (two d)) t) (either (is_decimal (peek r)))
 
 -- ---- no character above 127 is a digit
 pub decimal_high : (c : ℕ) → 0x80 ≤ c → is_decimal c ≡ false

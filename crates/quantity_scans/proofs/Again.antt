@@ -12,6 +12,7 @@ use borrow.Author.Tests.{eqb-false}
 use Rattle.basics.proofs.Choice.{none_of}
 use Rattle.utf8.specs.declared.Char.{Char}
 use Rattle.utf8.specs.Chars.{peek}
+use Rattle.utf8.proofs.Ends.{peek_take}
 use Rattle.kinds.specs.Kinds.{ILLEGAL, INT, FLOAT}
 use Rattle.errors.specs.Numbers.{MISPLACED_UNDERSCORE, BAD_EXPONENT}
 use Rattle.digits.specs.Digit.{is_decimal}
@@ -20,7 +21,7 @@ use Rattle.numbers.specs.declared.Spelling.TheVariants.{AsRead, LowerExponent}
 use Rattle.numbers.specs.Run.{Run, digit_run, strict_run, run_len}
 use Rattle.numbers.specs.Number.{Numeral, after_chars, illegal, good, exponent_digits, exponent, finish, fraction, decimal_rest, decimal, prefixed_digits, prefixed}
 use Rattle.quantity_scans.proofs.Rules.{run_then}
-use Rattle.quantity_scans.proofs.Cut.{part, peek_take, peek_one, peek_other, nothing_behind, run_cut, strict_cut, run_within}
+use Rattle.quantity_scans.proofs.Cut.{part, peek_one, peek_other, nothing_behind, run_cut, strict_cut, run_within}
 
 abbrev pub Good : Numeral → Type 0
 Good x = x.kind ≢ ILLEGAL

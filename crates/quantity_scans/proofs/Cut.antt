@@ -15,6 +15,7 @@ use Rattle.basics.proofs.Choice.{same_test}
 use Rattle.basics.proofs.Every.{every_below}
 use Rattle.utf8.specs.declared.Char.{Char}
 use Rattle.utf8.specs.Chars.{peek}
+use Rattle.utf8.proofs.Ends.{peek_take}
 use Rattle.digits.specs.Digit.{digit_val, is_decimal}
 use Rattle.digits.proofs.Digits.{digit_high}
 use Rattle.numbers.specs.Run.{Run, end_of_run, longer_run, digit_run, strict_run, is_digit_or_underscore, run_len}
@@ -25,11 +26,6 @@ pub part : {A : Type 0} (n m : ℕ) (l : List A) → drop n (take (n + m) l) ≡
 part zero m l = ap (λ i. take i l) (zero-add m)
 part (suc n) m [] = ap (drop (suc n)) (take-nil (suc n + m)) ∙ sym (take-nil m)
 part (suc n) m (x ∷ l) = ap (λ i. drop (suc n) (take i (x ∷ l))) (suc-add n m) ∙ part n m l
-
-pub peek_take : (n : ℕ) (r : List Char) → 0 < n → peek (take n r) ≡ peek r
-peek_take zero r h = absurd (not-suc-le-zero h)
-peek_take (suc n) [] h = refl
-peek_take (suc n) (c ∷ r) h = refl
 
 pub peek_one : (n : ℕ) (r : List Char) → peek (take (1 + n) r) ≡ peek r
 peek_one n r = peek_take (1 + n) r (omega arith)

@@ -15,6 +15,7 @@ use borrow.Author.Tests.{eqb-true, eqb-false, not-false}
 use Rattle.basics.proofs.Choice.{either, and_split}
 use Rattle.utf8.specs.declared.Char.{Char}
 use Rattle.utf8.specs.Chars.{peek}
+use Rattle.utf8.proofs.Ends.{peek_take}
 use Rattle.kinds.specs.Kinds.{ILLEGAL, INT, FLOAT, IMAG}
 use Rattle.errors.specs.Numbers.{BAD_BINARY, BAD_OCTAL, BAD_HEXADECIMAL, MISPLACED_UNDERSCORE}
 use Rattle.numbers.specs.declared.Spelling.{Spelling}
@@ -22,7 +23,7 @@ use Rattle.numbers.specs.declared.Spelling.TheVariants.{AsRead, LowerPrefix, Oct
 use Rattle.numbers.specs.Run.{Run, digit_run, is_digit_or_underscore, run_len}
 use Rattle.numbers.specs.Number.{Numeral, after_chars, illegal, good, exponent, finish, fraction, decimal_rest, decimal, prefixed, makes_decimal, is_bare_octal, bare_zero, leading_zero, without_i, imaginary, number}
 use Rattle.quantity_scans.proofs.Rules.{letter_or, by_upper_b, by_lower_b, by_upper_o, by_lower_o, by_upper_x}
-use Rattle.quantity_scans.proofs.Cut.{part, peek_take, peek_one, peek_other, next_other, nothing_behind, run_cut, run_whole, longest_first}
+use Rattle.quantity_scans.proofs.Cut.{part, peek_one, peek_other, next_other, nothing_behind, run_cut, run_whole, longest_first}
 use Rattle.quantity_scans.proofs.Again.{Good, by_test, on, fraction_cut, decimal_cut, prefixed_cut, prefixed_some, octal_run}
 
 -- a number of r without an error that no i follows

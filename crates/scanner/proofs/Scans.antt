@@ -76,10 +76,13 @@ held_read s src table list k cs =
     ap (read_line s.size s.offset cs) (k.line ∙ sym (take_line table s.lines g.some g.held))
     ∙ read_last_line s.size s.offset cs (take s.lines table)
 
--- xs after the first n of a buffer
+-- ---- xs after the first n of a buffer
+pub length_behind : {A : Type 0} (buffer : List A) (n : ℕ) (xs : List A) → n ≤ length buffer → length (take n buffer ++ xs) ≡ n + length xs
+length_behind buffer n xs h = rw (length-append (take n buffer) xs, length-take-le n buffer h)
+
 pub written_behind : {A : Type 0} (buffer : List A) (n : ℕ) (xs : List A) → n + length xs ≤ length buffer → written (take n buffer ++ xs) buffer ≡ sets buffer n xs
 written_behind buffer n xs h =
-    rw (length-append (take n buffer) xs, length-take-le n buffer (omega arith)) (sym (sets-eq xs buffer n h))
+    rw (length_behind buffer n xs (omega arith)) (sym (sets-eq xs buffer n h))
 
 -- how many errors there are with those of a lexeme
 pub errors_after : (number offset n : ℕ) (list : List ℕ) (line : Line) → length (errors_of n list ++ new_errors number offset line) ≡ n + cond (eqb number 0) 0 1
@@ -222,8 +225,7 @@ module _ (src : List ℕ) (s : State) (table list area : List ℕ) (k : Held s s
 
   -- ---- the steps of the code
   lines_length : length (take s.lines table ++ new) ≡ s.lines + length new
-  lines_length =
-      rw (length-append (take s.lines table) new, length-take-le s.lines table (fit (file_of s) table k.fitted).held)
+  lines_length = length_behind table s.lines new (fit (file_of s) table k.fitted).held
 
   errors_counted : length u.errors ≡ s.errors + cond (eqb (error_number x.error) 0) 0 1
   errors_counted = errors_after (error_number x.error) (s.offset + taken') s.errors list (last_line (take s.lines table ++ new))

@@ -4,8 +4,8 @@ use mathlib.Core.Path.{◌≡◌, refl, sym, ap, ◌∙◌}
 use native.Mathlib.Nat.{add-zero}
 use mathlib.Core.Bool.{Bool, true, false}
 use mathlib.Core.List.{List, [], ◌++◌}
-use lib.ListN.{length, take, drop, length-append}
-use lib.Seq.{sets, length-take-le}
+use lib.ListN.{length, take, drop}
+use lib.Seq.{sets}
 use Rattle.utf8.specs.declared.Char.{Char}
 use Rattle.utf8.specs.Chars.{chars, widths}
 use Rattle.position.specs.declared.Line.{Line}
@@ -25,7 +25,7 @@ use Rattle.state.specs.State.{advance}
 use Rattle.state.specs.Fits.{file_of, fits}
 use Rattle.scanner.specs.Scan.{view, written, to_area, token_of, refusal_for, refusal_of, ScanLeft, with_error, gave_by, unless, scan_by, scan_of}
 use Rattle.scanner.specs.TableLaw.{Alike, SameScan, TableLaw}
-use Rattle.scanner.proofs.Scans.{held, written_behind, scan_unfit}
+use Rattle.scanner.proofs.Scans.{held, length_behind, written_behind, scan_unfit}
 use Rattle.scanner.proofs.Fitting.{passes}
 
 -- a scan that is not refused comes to what is given
@@ -102,7 +102,7 @@ module _ (src : List ℕ) (s : State) (list area : List ℕ) where
         (rw (last_start (file_of s) table file) (held s src table list holds).last)
 
     lines_length : length (take s.lines table ++ new) ≡ s.lines + length new
-    lines_length = rw (length-append (take s.lines table) new, length-take-le s.lines table file.held)
+    lines_length = length_behind table s.lines new file.held
 
     abbrev came : Bool → List ℕ → ScanLeft
     came fit lines =

@@ -103,6 +103,11 @@ pub encode_scalar : (n : ℕ) → Scalar n → encode n ≡ octets n
 unfolding encode
 encode_scalar n s = rw (scalar_true n s)
 
+-- a code below 128 is written as itself
+pub encode_ascii : (n : ℕ) → n < 0x80 → encode n ≡ n ∷ []
+unfolding octets
+encode_ascii n h = encode_scalar n (inl (omega arith)) ∙ simp (lt-ltb n 0x80 h)
+
 -- ---- the codes give the bytes back
 pub first_coded : (s : List ℕ) → 0 < length s → is_stray (first_char s) ≡ false → encode (first_char s).code ≡ take (first_char s).width s
 first_coded s z g = encode_scalar (first_char s).code (first_scalar s z g) ∙ first_octets s z g

@@ -7,7 +7,7 @@ use mathlib.Core.Logic.{◌⊎◌, inl, inr}
 use native.Mathlib.Omega.{arith}
 use native.Mathlib.Nat.{not-suc-le-zero}
 use lib.Dec.{eqb}
-use lib.ListN.{length, drop}
+use lib.ListN.{length, take, drop}
 use borrow.Author.Tests.{eqb-true}
 use Rattle.utf8.specs.declared.Char.{Char}
 use Rattle.utf8.specs.Chars.{peek}
@@ -46,6 +46,12 @@ pub peek_append : (n : ℕ) (r t : List Char) → n < length r → peek (drop n 
 peek_append n [] t l = absurd (not-suc-le-zero l)
 peek_append zero (c ∷ r) t l = refl
 peek_append (suc n) (c ∷ r) t l = peek_append n r t (omega arith)
+
+-- and with what is behind it cut off
+pub peek_take : (n : ℕ) (r : List Char) → 0 < n → peek (take n r) ≡ peek r
+peek_take zero r h = absurd (not-suc-le-zero h)
+peek_take (suc n) [] h = refl
+peek_take (suc n) (c ∷ r) h = refl
 
 -- a character that is no line feed is not the last one
 pub more_behind : (r : List Char) (x : ℕ) → Ends r → eqb (peek r) x ≡ true → (x ≡ 10 → ⊥) → 1 < length r
