@@ -24,7 +24,7 @@ fn long_word(word: &[u8]) -> Kind
     Kind::Ident
 }
 
-// The number whose n bytes are all ones.
+// The number whose n bytes are all ones. (A shift by 64 - 8 * n is none for n = 0.)
 fn ones(n: usize) -> u64
     requires { n ≤ 8 }
     ensures { result ≡ 2 ^ (8 * n) - 1 }

@@ -156,6 +156,8 @@ fn decimal_rest(src: &[u8], at: usize) -> Number
     finish_number(src, at, Kind::Int)
 }
 
+// A decimal number. (`scan_fraction` reads digits so, too. What comes after them is another function:
+// one for both would take it as a closure, and is no plainer.)
 #[tactic(auto, using(crate::proofs::Runs::run_err, crate::proofs::Runs::run_ok, crate::proofs::Numerals::decimal_bad, crate::proofs::Numerals::decimal_good))]
 fn scan_decimal(src: &[u8], at: usize) -> Number
     ensures { number_said result ≡ number_at at (decimal (chars (drop at src.now))) }
@@ -254,13 +256,7 @@ fn scan_number_without_i(src: &[u8], at: usize) -> Number
 pub fn starts_number(first: u8, second: u8) -> bool
     ensures { result ≡ starts_number first second }
 {
-    if digits::is_decimal(first) {
-        return true;
-    }
-    if first == b'.' {
-        return digits::is_decimal(second);
-    }
-    false
+    digits::is_decimal(first) || first == b'.' && digits::is_decimal(second)
 }
 
 // The number at a place that holds a digit, or a point before one.

@@ -9,7 +9,8 @@ ghost use Rattle.swar.specs.Number.{number_of};
 ghost use Rattle.swar.specs.Lanes.{lanes};
 ghost use Rattle.swar.specs.Marks.{mark, ascii_between, before_mark, run_of};
 
-// The number that the bytes from a place on are, where they are at most eight.
+// The number that the bytes from a place on are, where they are at most eight. (The loop is over
+// places, since the first may lie past the end.)
 fn last_bytes(s: &[u8], at: usize) -> u64
     requires { length s.now ≤ at + 8 }
     ensures { result ≡ number_of (drop at s.now) }

@@ -37,7 +37,8 @@ pub(crate) trait Form {
     fn refused(&self, out: &mut Output, why: NotOpened);
 }
 
-// What scans are lent: a table of line starts, a list of errors and a text area.
+// What scans are lent: a table of line starts, a list of errors and a text area. (The program
+// `bad_input` has such a struct, too: what programs share are the libraries alone.)
 #[derive(Drop)]
 pub(crate) struct Lent<'a> {
     pub(crate) table: &'a mut [usize],
