@@ -1,6 +1,6 @@
 -- Laws of what a code is written in, by its range: how many bytes, and the byte at a place.
-use Prim.Native.Nat.{ℕ, zero, suc, ◌+◌, ◌-◌, ◌*◌, ◌/◌, ◌%◌, ◌^◌, ◌≤◌, ◌<◌}
-use mathlib.Core.Path.{◌≡◌, ◌∙◌}
+use Prim.Native.Nat.{ℕ, zero, suc, ◌+◌, ◌-◌, ◌/◌, ◌%◌, ◌≤◌, ◌<◌}
+use mathlib.Core.Path.{◌≡◌, refl, ◌∙◌}
 use mathlib.Core.Bool.{cond}
 use mathlib.Core.List.{List, [], ◌∷◌}
 use mathlib.Core.Logic.{◌⊎◌, inl, inr, ⊎_elim}
@@ -11,7 +11,7 @@ use lib.ListN.{length, get_or}
 use borrow.Author.Tests.{lt-ltb, le-ltb}
 use Rattle.basics.proofs.Choice.{cond_ind, below_it, above_it}
 use Rattle.utf8.specs.Chars.{octets, encode}
-use Rattle.encoding.specs.Steps.{lead}
+use Rattle.encoding.specs.Steps.{digit, lead}
 use Rattle.utf8.proofs.Encoding.{encode_scalar, octets_two, octets_three, octets_four}
 
 pub encode_one : (n : ℕ) → n < 0x80 → encode n ≡ n ∷ []
@@ -65,40 +65,25 @@ written n =
       ]
     ]
 
--- no more than four bytes
-most : {code : ℕ} {l : List ℕ} → Written code l → length l ≤ 4
-most (one h) = omega arith
-most (two l h) = omega arith
-most (three l h) = omega arith
-most (four l h) = omega arith
-most none = omega arith
-
-pub length_most : (code : ℕ) → length (encode code) ≤ 4
-length_most code = most (written code)
-
 -- ---- the byte at a place
--- a code without its last six bits, so many times
-abbrev pub digit : ℕ → ℕ → ℕ
-digit code times = code / 2 ^ (6 * times)
-
 abbrev pub byte_of : ℕ → ℕ → ℕ → ℕ
 byte_of n code k = cond (eqb k 0) ((lead n + digit code (n - 1 - k)) % 256) (0x80 + digit code (n - 1 - k) % 64)
 
 at_place : {code : ℕ} {l : List ℕ} → Written code l → (k : ℕ) → k < length l → get_or l k 0 ≡ byte_of (length l) code k
-unfolding lead
+unfolding lead digit
 at_place {code} (one h) zero g = omega arith
 at_place (one h) (suc k) g = absurd (omega arith)
 at_place {code} (two l h) zero g = omega arith
-at_place (two l h) (suc zero) g = omega arith
+at_place (two l h) (suc zero) g = refl
 at_place (two l h) (suc (suc k)) g = absurd (omega arith)
 at_place {code} (three l h) zero g = omega arith
-at_place (three l h) (suc zero) g = omega arith
-at_place (three l h) (suc (suc zero)) g = omega arith
+at_place (three l h) (suc zero) g = refl
+at_place (three l h) (suc (suc zero)) g = refl
 at_place (three l h) (suc (suc (suc k))) g = absurd (omega arith)
 at_place {code} (four l h) zero g = omega arith
-at_place (four l h) (suc zero) g = omega arith
-at_place (four l h) (suc (suc zero)) g = omega arith
-at_place (four l h) (suc (suc (suc zero))) g = omega arith
+at_place (four l h) (suc zero) g = refl
+at_place (four l h) (suc (suc zero)) g = refl
+at_place (four l h) (suc (suc (suc zero))) g = refl
 at_place (four l h) (suc (suc (suc (suc k)))) g = absurd (omega arith)
 at_place none k g = absurd (omega arith)
 
@@ -117,7 +102,11 @@ pub code_limit : (code : ℕ) → 0 < length (encode code) → code < 0x110000
 code_limit code h = limit (written code) h
 
 pub digit_most : (code times : ℕ) → digit code times ≤ code
-digit_most code times = search arith
+unfolding digit
+digit_most code times =
+    cond_ind (λ x. x ≤ code) (eqb times 0) _ _ (λ _. omega arith)
+    (λ _. cond_ind (λ x. x ≤ code) (eqb times 1) _ _ (λ _. omega arith)
+    (λ _. cond_ind (λ x. x ≤ code) (eqb times 2) _ _ (λ _. omega arith) (λ _. omega arith)))
 
 pub lead_most : (n : ℕ) → lead n ≤ 0xF0
 unfolding lead

@@ -1,24 +1,10 @@
 -- `encoding::encoded_byte` meets its contract: by the place of the byte among those that the code is written in.
-use Prim.Native.Nat.{◌-◌, ◌*◌, ◌<◌}
+use Prim.Native.Nat.{◌-◌}
 use mathlib.Core.Path.{sym, ◌∙◌}
 use native.Mathlib.Omega.{arith}
 use borrow.Author.Tests.{ne_eqb}
-use Rattle.encoding.proofs.Written.{length_most, encode_at, code_limit, digit_most, lead_most}
+use Rattle.encoding.proofs.Written.{encode_at, code_limit, digit_most, lead_most}
 use Rattle.encoding.proofs.encoded_byte.Goals as goal
-use Rattle.encoding.proofs.encoded_byte.Goals.{Else-n-k}
-
--- six bits for each byte after it are fewer than 32
-few : (c : Else-n-k) → 6 * (c.encoded_len-n.result - 1 - c.args.k) < 32
-few c = omega (arith, length_most c.args.code, c.encoded_len-n.ensures)
-
-pub overflow_mul-bits : goal.overflow_mul-bits
-overflow_mul-bits c = record { fits = omega (arith, few c) }
-
-pub overflow_cast-bits : goal.overflow_cast-bits
-overflow_cast-bits c = record { fits = omega (arith, few c) }
-
-pub overflow_shr-bits : goal.overflow_shr-bits
-overflow_shr-bits c = few c
 
 pub overflow_add-result : goal.overflow_add-result
 overflow_add-result c =
@@ -29,18 +15,19 @@ overflow_add-result c =
       digit_most x.code (c.encoded_len-n.result - 1 - x.k),
       lead_most c.encoded_len-n.result,
       c.lead_of.ensures,
+      c.digit_of-bits.ensures,
     )
 
 pub returns-then-k-eq0 : goal.returns-then-k-eq0
 returns-then-k-eq0 c =
     let x = c.args in
     let n = c.encoded_len-n in
-    rw (c.lead_of.ensures, n.ensures)
+    rw (c.lead_of.ensures, c.digit_of-bits.ensures, n.ensures)
     (sym (encode_at x.code x.k (omega (arith, n.ensures)) ∙ rw c.if-k-eq0.true))
 
 pub returns : goal.returns
 returns c =
     let x = c.args in
     let n = c.encoded_len-n in
-    rw n.ensures
+    rw (c.digit_of-bits.ensures, n.ensures)
     (sym (encode_at x.code x.k (omega (arith, n.ensures)) ∙ rw (ne_eqb x.k 0 c.if-k-eq0.false)))
