@@ -20,7 +20,7 @@ pub(crate) const WIDTH: usize = 4;
 impl Error {
     // The numbers of its record, in their order.
     #[tactic(auto, unfolding(crate::specs::Layout::numbers))]
-    pub fn numbers(self) -> [usize; WIDTH]
+    pub fn numbers(self) -> [usize; 4]
         ensures { result ≡ numbers self }
     {
         [self.offset, self.line, self.column, self.number]
