@@ -8,7 +8,8 @@ ghost use Rattle.encoding.specs.Steps.{digit, lead};
 // How many bytes a code is written in, 0 where it is no Unicode scalar value. (No `Option`: it is
 // the length of the bytes that docs/DECISIONS.md gives such a code, which are none. And no
 // `char::from_u32(code).map_or(0, char::len_utf8)`: it proves, but a loop that writes codes of one
-// to three bytes, mixed, to a buffer takes 1.5 times as long with it.)
+// to three bytes, mixed, to a buffer takes 1.5 times as long with it. Two arms have one answer: where
+// they are one, codes of two bytes take a third more time.)
 #[tactic(auto, unfolding(utf8::specs::Chars::encode, utf8::specs::Chars::octets))]
 pub fn encoded_len(code: u32) -> usize
     ensures { result ≡ length (encode code) }
@@ -16,7 +17,8 @@ pub fn encoded_len(code: u32) -> usize
     match code {
         0..=0x7F => 1,
         0x80..=0x7FF => 2,
-        0x800..=0xD7FF | 0xE000..=0xFFFF => 3,
+        0x800..=0xD7FF => 3,
+        0xE000..=0xFFFF => 3,
         0x1_0000..=0x10_FFFF => 4,
         _ => 0,
     }
