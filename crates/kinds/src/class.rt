@@ -27,7 +27,6 @@ pub fn is_keyword(kind: u8) -> bool
 
 // The precedence of a binary operator, 5 the highest; 0 of every other kind. (No `Option`:
 // docs/PROVED.md promises this number, and Go's own scanner calls 0 the lowest precedence.)
-#[tactic(auto, unfolding(crate::specs::Precedence::precedence_of))]
 pub fn precedence(kind: u8) -> usize
     ensures { result ≡ precedence_of kind }
 {
