@@ -8,15 +8,11 @@ use native.Mathlib.Omega.{arith}
 use native.Mathlib.Decide.{dec_lt}
 use lib.Dec.{eqb}
 use lib.ListN.{length, get_or}
-use borrow.Author.Tests.{lt-ltb, le-ltb}
+use borrow.Author.Tests.{le-ltb}
 use Rattle.basics.proofs.Choice.{cond_ind, below_it, above_it}
-use Rattle.utf8.specs.Chars.{octets, encode}
+use Rattle.utf8.specs.Chars.{encode}
 use Rattle.encoding.specs.Steps.{digit, lead}
-use Rattle.utf8.proofs.Encoding.{encode_scalar, octets_two, octets_three, octets_four}
-
-pub encode_one : (n : ℕ) → n < 0x80 → encode n ≡ n ∷ []
-unfolding octets
-encode_one n h = encode_scalar n (inl (omega arith)) ∙ simp (lt-ltb n 0x80 h)
+use Rattle.utf8.proofs.Encoding.{encode_ascii, encode_scalar, octets_two, octets_three, octets_four}
 
 pub encode_two : (n : ℕ) → 0x80 ≤ n → n < 0x800 → encode n ≡ (0xC0 + n / 64) ∷ (0x80 + n % 64) ∷ []
 encode_two n l h = encode_scalar n (inl (omega arith)) ∙ octets_two n l h
@@ -46,7 +42,7 @@ data Written (n : ℕ) : List ℕ → Type 0 where
 written : (n : ℕ) → Written n (encode n)
 written n =
     elim (dec_lt n 0x80) [
-      | yes h ↦ rw (encode_one n h) (one h)
+      | yes h ↦ rw (encode_ascii n h) (one h)
       | no a ↦ elim (dec_lt n 0x800) [
         | yes h ↦ rw (encode_two n (omega arith) h) (two (omega arith) h)
         | no b ↦ elim (dec_lt n 0x10000) [

@@ -5,7 +5,7 @@ use mathlib.Core.List.{List, [], ◌∷◌}
 use native.Mathlib.Omega.{arith}
 use native.Mathlib.Numerals.{add-one}
 use native.Mathlib.Nat.{add-zero, pow-suc, pow-le-pow_right, mul-le-mul, suc-mul}
-use lib.Dec.{ltb, lit≤}
+use lib.Dec.{ltb}
 use lib.ListN.{length, get_or, drop}
 use borrow.Author.Tests.{lt-ltb, le-ltb}
 use Rattle.basics.proofs.Choice.{cond_ind}
@@ -13,18 +13,9 @@ use Rattle.utf8.specs.declared.Char.{Char}
 use Rattle.utf8.specs.Chars.{chars}
 use Rattle.utf8.proofs.First.{chars_at, chars_end, chars_ascii}
 use Rattle.errors.specs.Numbers.{CUT_ESCAPE, BAD_ESCAPE}
-use Rattle.digits.specs.declared.Base.{Base}
-use Rattle.digits.specs.declared.Base.TheVariants.{Binary, Octal, Decimal, Hexadecimal}
-use Rattle.digits.specs.Base.{base_number}
 use Rattle.digits.specs.Digit.{digit_val}
 use Rattle.digits.proofs.Digits.{digit_low, digit_there}
 use Rattle.escapes.specs.EscapeDigits.{Digits, no_more_digits, one_digit_more, escape_digits}
-
-pub base_most : (b : Base) → base_number b ≤ 16
-base_most Binary = lit≤ tt
-base_most Octal = lit≤ tt
-base_most Decimal = lit≤ tt
-base_most Hexadecimal = lit≤ tt
 
 -- n digits before
 abbrev pub grown : ℕ → Digits → Digits

@@ -4,8 +4,9 @@ use native.Mathlib.Omega.{arith}
 use lib.ListN.{get_or}
 use Rattle.digits.specs.Base.{base_number}
 use Rattle.digits.specs.Digit.{digit_val}
+use Rattle.digits.proofs.Digits.{base_most}
 use Rattle.escapes.specs.Steps.{whole}
-use Rattle.escapes.proofs.DigitLaws.{base_most, grown, grown_more, grown_stop, all_read, next_cut, next_off, next_digit, grow, room}
+use Rattle.escapes.proofs.DigitLaws.{grown, grown_more, grown_stop, all_read, next_cut, next_off, next_digit, grow, room}
 use Rattle.escapes.proofs.escape_digits.digits_at.Goals as goal
 use Rattle.escapes.proofs.escape_digits.digits_at.Goals.{In-Some, Else-radix-d}
 
