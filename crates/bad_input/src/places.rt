@@ -1,4 +1,5 @@
-// Calls of the crates that keep line starts and errors.
+// Calls of the crates that keep line starts and errors. (State, table and numbers are given one by one,
+// as these take them.)
 use crate::show::Output;
 use errors::{Error, Fault};
 use scanner::State;

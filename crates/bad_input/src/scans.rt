@@ -1,4 +1,4 @@
-// Calls of the scanner.
+// Calls of the scanner. (State, source and buffers are given one by one, as the scanner takes them.)
 use crate::show::Output;
 use scanner::{Part, State, Token};
 

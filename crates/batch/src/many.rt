@@ -1,4 +1,6 @@
-// Many scans in one call: token after token, each by its numbers.
+// Many scans in one call: token after token, each by its numbers. (The source and the buffers go as
+// parameters, as `scan` is lent them: a struct of `&mut` slices would have each step say that it keeps
+// each reference.)
 ghost use Rattle.std.specs.Prelude.{◌≡◌, true, ◌≤◌, length};
 ghost use Rattle.position.specs.Lines.{line_in};
 ghost use Rattle.state.specs.Fits.{fits};

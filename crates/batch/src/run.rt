@@ -53,7 +53,8 @@ fn safe_end(src: &[u8], first: State) -> usize
 }
 
 // Gives simple tokens one after the other while there is room. What changes from token to token is
-// kept in few numbers. (The loop is no `for`, since its count where it stops is an answer.)
+// kept in few numbers. (The loop is no `for`: it also ends where no token comes, and how many came
+// goes into the answer in both cases.)
 pub(crate) fn run_simple(
     src: &[u8],
     tables: &Tables,

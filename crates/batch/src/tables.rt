@@ -42,8 +42,8 @@ impl Tables {
     }
 }
 
-// What each first byte tells. (The table is filled by stores, since a `match` on each of the 256
-// bytes would run at each call.)
+// What each first byte tells. (A call stores some 80 bytes that tell something, where it would come to
+// a `match` for each of the 256.)
 fn firsts() -> [First; 256]
     ensures { IsTable result }
 {

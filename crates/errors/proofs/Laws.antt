@@ -9,8 +9,8 @@ use native.Mathlib.Numerals.{add-one}
 use native.Mathlib.Nat.{not-suc-le-zero}
 use native.Mathlib.Omega.{arith}
 use lib.Dec.{leb, ltb}
-use lib.ListN.{length, get_elem?, length-append}
-use lib.Seq.{sets, length-sets}
+use lib.ListN.{length, take, get_elem?, length-append}
+use lib.Seq.{sets, length-sets, take-append-le, take_all}
 use borrow.Author.Tests.{le-leb, lt-leb, lt-ltb, le-ltb, leb-true, ltb-true, leb-false, ltb-false}
 use Rattle.basics.proofs.Choice.{either}
 use Rattle.basics.proofs.Lists.{at_append, at_end, at_past}
@@ -27,6 +27,20 @@ pub errors_length : (n : ℕ) (l : List ℕ) → length (errors_of n l) ≡ n
 unfolding errors_of
 errors_length zero l = refl
 errors_length (suc n) l = rw (length-append, errors_length n l) (omega arith)
+
+-- those of a smaller count come first
+pub errors_take : (m n : ℕ) (l : List ℕ) → m ≤ n → take m (errors_of n l) ≡ errors_of m l
+unfolding errors_of
+errors_take m zero l h = let z : m ≡ 0 = omega arith in rw z
+errors_take m (suc n) l h =
+    ⊎_elim
+    (λ (e : leb m n ≡ true).
+    let low : m ≤ n = leb-true m n e in
+    rw (take-append-le m (errors_of n l) (record_at l (n * width) ∷ []) (rw errors_length low)) (errors_take m n l low))
+    (λ (e : leb m n ≡ false).
+    let z : m ≡ suc n = omega (arith, leb-false m n e) in
+    rw z (take_all (suc n) (errors_of (suc n) l) (omega (arith, errors_length (suc n) l))))
+    (either (leb m n))
 
 -- what is written after them leaves them
 pub errors_kept : (n : ℕ) (l : List ℕ) (at : ℕ) (vs : List ℕ) → n * width ≤ at → errors_of n (sets l at vs) ≡ errors_of n l

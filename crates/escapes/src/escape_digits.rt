@@ -15,9 +15,8 @@ pub(crate) struct EscapeDigits {
     pub(crate) value: Result<u32, Fault>,
 }
 
-// The value of exactly `count` digits below the base. The loop counts by hand: how many it read
-// before one that is missing is part of the answer, and what is missing, the byte or a digit, gives
-// the fault. An iterator over the bytes ends without either.
+// The value of exactly `count` digits below the base. (The loop is over counts: how many digits it
+// read is part of the answer. And whether the byte or a digit is missing decides the fault.)
 pub(crate) fn digits_at(src: &[u8], at: usize, base: Base, count: usize) -> EscapeDigits
     requires { count ≤ 8 }
     ensures { digits_said result ≡ whole (escape_digits (base_number base) count 0 (chars (drop at src.now))) }

@@ -1,18 +1,19 @@
 -- The kind of a word: that of the keyword whose name it is, or IDENT.
 use Prim.Native.Nat.{ℕ, suc, ◌<◌, zero-le, suc-le-suc}
 use mathlib.Core.Path.{◌≡◌, refl, sym, ap}
-use mathlib.Core.Bool.{Bool, true, false, ◌||◌}
+use mathlib.Core.Bool.{Bool, true, false, ◌&&◌, ◌||◌}
 use mathlib.Core.List.{List, [], ◌∷◌}
 use mathlib.Core.Logic.{◌⊎◌, inl, inr, ⊎_elim}
 use borrow.Author.Tests.{lt-leb}
 use lib.Dec.{T, eqb, leb, eqb→eq}
 use lib.ListN.{length, get_or}
+use Rattle.basics.specs.Between.{between}
 use Rattle.basics.specs.Same.{same}
 use Rattle.basics.specs.Spelling.{spelled}
-use Rattle.basics.proofs.Choice.{either}
+use Rattle.basics.proofs.Choice.{either, and_left, and_right, true_of}
 use Rattle.basics.proofs.Every.{every_entry}
 use Rattle.basics.proofs.Lists.{same_true}
-use Rattle.kinds.specs.Kinds.{IDENT, FALLTHROUGH, INTERFACE}
+use Rattle.kinds.specs.Kinds.{IDENT, BREAK, FALLTHROUGH, INTERFACE, VAR}
 use Rattle.kinds.specs.Table.{Row, keywords, kind_named, ident_token}
 use Rattle.kinds.proofs.Table.{none}
 
@@ -31,10 +32,29 @@ look w (row ∷ rows) =
     (λ (e : same w row.name ≡ false). ⊎_elim (λ d. inl (rw e d)) (λ k. inr (later w row rows k)) (look w rows))
     (either (same w row.name))
 
--- each keyword's name has its kind
-pub keyword_found : (i : ℕ) → i < length keywords → ident_token (get_or keywords i none).name ≡ (get_or keywords i none).kind
-unfolding keywords kind_named same
-keyword_found i h = eqb→eq _ _ (every_entry (λ k row. eqb (ident_token row.name) row.kind) keywords none tt i h)
+-- what holds of each keyword: its name has its kind, which is between BREAK and VAR
+abbrev is_found : Row → Bool
+is_found row = eqb (ident_token row.name) row.kind
+
+abbrev in_range : Row → Bool
+in_range row = between BREAK row.kind VAR
+
+module _ (i : ℕ) (h : i < length keywords) where
+  right : T (is_found (get_or keywords i none) && in_range (get_or keywords i none))
+  unfolding keywords kind_named same
+  right = every_entry (λ k row. is_found row && in_range row) keywords none tt i h
+
+  pub keyword_found : ident_token (get_or keywords i none).name ≡ (get_or keywords i none).kind
+  keyword_found = eqb→eq _ _ (and_left (is_found (get_or keywords i none)) (in_range (get_or keywords i none)) right)
+
+  keyword_kind : between BREAK (get_or keywords i none).kind VAR ≡ true
+  keyword_kind = true_of _ (and_right (is_found (get_or keywords i none)) (in_range (get_or keywords i none)) right)
+
+pub word_kind : (w : List ℕ) → (ident_token w ≡ IDENT) ⊎ (between BREAK (ident_token w) VAR ≡ true)
+word_kind w = ⊎_elim (λ d. inl d) (λ k. inr (spelt k)) (look w keywords)
+  where
+    spelt : Known w keywords → between BREAK (ident_token w) VAR ≡ true
+    spelt (known i h e) = rw (e, keyword_found i h) (keyword_kind i h)
 
 pub interface_named : (w : List ℕ) → w ≡ spelled "interface" → INTERFACE ≡ ident_token w
 unfolding keywords kind_named same

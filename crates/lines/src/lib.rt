@@ -1,6 +1,7 @@
 // The line starts of characters that are read.
-// (A source and a place stay two parameters, as docs/PROVED.md promises: a struct of both would be
-// named in each contract and each call, and is no plainer.)
+// (A source and a place stay two parameters, as docs/PROVED.md promises, and so do count, offset and
+// size: a struct of them would be named in each contract and each call, and is no plainer. The loops
+// are over offsets, since a start is one.)
 #![tactic(auto)]
 
 mod count;

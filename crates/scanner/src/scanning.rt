@@ -57,7 +57,8 @@ fn has_room(x: Lexed, area: usize) -> bool
 }
 
 // The first of `BadSize`, `TableFull`, `ListFull` and `AreaFull` whose condition holds: for the offset
-// reached, the line starts read and the lengths of the buffers.
+// reached, the line starts read and the lengths of the buffers. (The lengths stay three numbers: no
+// other function takes them.)
 fn check(
     x: Lexed,
     offset: usize,

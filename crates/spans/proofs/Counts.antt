@@ -1,28 +1,33 @@
 -- Laws of what a body holds: a text after does not change it, what its last character adds, and that it is no more than its bytes.
-use Prim.Native.Nat.{ℕ, zero, suc, ◌+◌, ◌-◌, ◌<◌}
+use Prim.Native.Nat.{ℕ, zero, suc, ◌+◌, ◌-◌, ◌≤◌, ◌<◌}
 use Prim.Native.Char.{code}
 use mathlib.Core.Path.{◌≡◌, refl, sym, ap, ◌∙◌}
 use mathlib.Core.Bool.{Bool, true, false, and-false}
-use mathlib.Core.List.{List, ◌∷◌}
+use mathlib.Core.List.{List, ◌∷◌, ◌++◌}
 use native.Mathlib.Omega.{arith}
 use native.Mathlib.Nat.{add-zero}
 use mir.Val.{bool_byte}
 use lib.Dec.{eqb}
 use lib.ListN.{length, get_or, take, drop}
-use lib.Seq.{drop-cons}
+use lib.Seq.{take-append-le, drop-cons}
 use borrow.Author.Tests.{ne_eqb}
 use Rattle.utf8.specs.declared.Char.{Char}
 use Rattle.utf8.specs.Chars.{ended, chars, widths, is_stray}
 use Rattle.utf8.specs.Count.{is_cr, count, one}
 use Rattle.utf8.proofs.Count.{count_last, widths_last}
 use Rattle.utf8.proofs.Places.{place_chars, ascii_widths}
-use Rattle.spans.specs.Span.{to_stop}
+use Rattle.spans.specs.Span.{Span, to_stop}
+use Rattle.spans.specs.Body.{body_of}
 use Rattle.spans.proofs.Spans.{stop_closing}
 
 -- a test as a number
 pub byte_one : (t : Bool) → bool_byte t ≡ one t
 byte_one true = refl
 byte_one false = refl
+
+pub body_local : (at : ℕ) (s : Span) (r t : List Char) → s.len ≤ length r → body_of at s (r ++ t) ≡ body_of at s r
+unfolding body_of
+body_local at s r t h = rw (take-append-le s.len r t h)
 
 -- one of ASCII has one byte
 low_width : (s : List ℕ) (p n : ℕ) → n < length (chars (drop p s)) → (get_or (chars (drop p s)) n ended).code < 0x80 → (get_or (chars (drop p s)) n ended).width ≡ 1

@@ -3,7 +3,7 @@ use Prim.Native.Nat.{ℕ, zero, suc, ◌+◌, ◌*◌, ◌/◌, ◌%◌, ◌≤�
 use Prim.Native.Char.{code}
 use mathlib.Core.Path.{◌≡◌, refl, sym, ap, ap₂, ◌∙◌}
 use mathlib.Core.Bool.{Bool, true, false, not, ◌||◌, false≢true}
-use mathlib.Core.List.{List, [], ◌∷◌, ◌++◌}
+use mathlib.Core.List.{List, [], ◌∷◌, ◌++◌, append_assoc}
 use mathlib.Core.Logic.{⊎_elim}
 use native.Mathlib.Omega.{arith}
 use native.Mathlib.Decide.{dec_lt}
@@ -202,3 +202,8 @@ pub clean_differs : (s : List ℕ) (k p : ℕ) → p ≤ length s
 clean_differs s k p h =
     let cs = take k (chars (drop p s)) in
     differs_by s k p h (same (clean cs) (take (widths cs) (drop p s))) (eqb (count is_cr cs) 0) (eqb (count is_stray cs) 0) refl refl refl
+
+pub clean_append : (a b : List Char) → clean (a ++ b) ≡ clean a ++ clean b
+unfolding clean
+clean_append [] b = refl
+clean_append (c ∷ a) b = rw (clean_append a b) (sym (append_assoc (cleaned c) (clean a) (clean b)))

@@ -73,7 +73,7 @@ impl<F: Form> Listing<'_, F> {
         Ok(())
     }
 
-    // Lists the errors, in order of arrival.
+    // Lists the errors, in order of arrival: each is asked for by its index.
     fn errors(&mut self, last: State, list: &[usize]) -> Result<(), Refusal> {
         for k in 0..last.errors {
             if let Some(error) = scanner::error(last, list, k)? {

@@ -75,6 +75,13 @@ append_from (suc k) (b ∷ s) t h g = append_from k s t (le_of_suc-le-suc h) g
 pub chars_append : (s t : List ℕ) → well_formed s ≡ true → chars (s ++ t) ≡ chars s ++ chars t
 chars_append s t g = append_from 0 s t (omega arith) g
 
+no_stray_append : (cs ds : List Char) → no_stray cs ≡ true → no_stray (cs ++ ds) ≡ no_stray ds
+no_stray_append [] ds g = refl
+no_stray_append (c ∷ cs) ds g = let q = no_stray_split c cs g in rw q.0 (no_stray_append cs ds q.1)
+
+pub well_formed_append : (s t : List ℕ) → well_formed s ≡ true → well_formed (s ++ t) ≡ well_formed t
+well_formed_append s t g = ap no_stray (chars_append s t g) ∙ no_stray_append (chars s) (chars t) g
+
 -- ---- the place that `checked` gives: the bytes before it are well formed, and a stray byte stands there
 pub record FirstStray (s : List ℕ) (p : ℕ) : Type 0 where
   pub inside : p < length s

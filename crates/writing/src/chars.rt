@@ -10,7 +10,7 @@ ghost use Rattle.writing.specs.Writes.{Writes};
 use crate::put::{put, put_code};
 
 // Writes the characters at a place, so many of them, with or without CR, and answers the place
-// after them.
+// after them. (The loop only counts: a character is found by the place after the one before.)
 fn write_chars(src: &[u8], at: usize, count: usize, crs: bool, area: &mut [u8], to: usize) -> usize
     ensures { Writes area.old to (text crs (take count (chars (drop at src.now)))) area.new result }
 {

@@ -16,7 +16,8 @@ pub(crate) fn put(area: &mut [u8], to: usize, b: u8) -> usize
     to
 }
 
-// Writes the bytes of a code and answers the place after them.
+// Writes the bytes of a code and answers the place after them. (The loop is over places, since
+// `encoded_byte` takes one.)
 pub(crate) fn put_code(area: &mut [u8], to: usize, code: u32) -> usize
     ensures { Writes area.old to (encode code) area.new result }
 {
